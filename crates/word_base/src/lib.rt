@@ -1,0 +1,15 @@
+//! What every layer of the translator speaks of: words and their bytes, rules and refusals, and the
+//! events of a lane of a compute shader.
+//!
+//! The definitions that the contracts cite stand in `specs/`: `Words` for words and bytes, `Rules`
+//! for the order of refusals, `Lanes` for machines that make events, `Settings` for what a lane is
+//! given.
+#![tactic(auto)]
+
+mod event;
+mod rule;
+mod word;
+
+pub use event::{Act, Classes, Event, Ids, Room, Scope};
+pub use rule::{Halt, NoMemory, Refusal, Rule, first_laws};
+pub use word::{field, word_at, word_laws};
