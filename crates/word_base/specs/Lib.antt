@@ -1,4 +1,5 @@
 pub mod Words
 pub mod Rules
 pub mod Lanes
+pub mod Registers
 pub mod Settings

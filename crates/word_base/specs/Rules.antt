@@ -81,6 +81,10 @@ order_of X5 = tested 10 5
 abbrev pub refusal : Rule → ℕ → Refusal
 refusal rule place = record { rule = rule; place = place }
 
+-- a rule that is broken there where the test says so
+abbrev pub broken : Bool → Rule → ℕ → List Refusal
+broken test rule place = if test then refusal rule place ∷ [] else []
+
 -- what refusals are ordered by
 pub record Key : Type 0 where
   pub phase : ℕ

@@ -1,0 +1,43 @@
+-- The form of program that is read: a straight line.
+use Rattle.std.specs.Prelude.{◌≡◌, ℕ, ◌≤◌, nat_eq, not, Bool, true, false, IsTrue, List, [], ◌∷◌, ◌++◌, length, Result, Ok, Err, ⊤}
+use Rattle.std.specs.List.{list_all}
+use Rattle.word_base.specs.declared.rule.Halt.{Halt}
+use Rattle.word_base.specs.declared.rule.Halt.TheVariants.{Refused, NoMemory}
+use Rattle.word_base.specs.declared.rule.Rule.TheVariants.{U1}
+use Rattle.word_base.specs.Rules.{refusal}
+use Rattle.tpf_program.specs.declared.declaration.Declaration.{Declaration}
+use Rattle.tpf_program.specs.declared.declaration.Declaration.TheVariants.{Group}
+use Rattle.tpf_program.specs.declared.instruction.Instruction.{Instruction}
+use Rattle.tpf_program.specs.Program.{Shader}
+use Rattle.tpf_program.specs.Spelling.{Spells}
+use Rattle.tpf_program.specs.Declarations.{declaration_refusals}
+
+-- the declarations and instructions of the form
+abbrev pub is_built : Declaration → Bool
+is_built (Group x y z) = true
+is_built other = false
+
+abbrev pub returns : Instruction → Bool
+returns i = nat_eq i.code 62
+
+abbrev pub is_built_code : Instruction → Bool
+is_built_code i = returns i
+
+-- `ret` stands once, as the last
+abbrev pub ReturnsAtEnd : List Instruction → Type 0
+ReturnsAtEnd is = (before : List Instruction) × (last : Instruction) × (is ≡ before ++ last ∷ []) × IsTrue (returns last) × IsTrue (list_all (λ i. not (returns i)) before)
+
+-- The words, all of them, spell this program, and it is of the form.
+pub record IsStraightLine (tokens : List ℕ) (p : Shader) : Type 0 where
+  pub spelled : Spells p tokens
+  pub whole : p.words ≡ length tokens
+  pub size : p.words ≤ 65536
+  pub declarations : IsTrue (list_all (λ d. is_built d.what) p.declarations)
+  pub instructions : IsTrue (list_all is_built_code p.instructions)
+  pub end : ReturnsAtEnd p.instructions
+  pub sound : declaration_refusals p ≡ []
+
+-- the reader's refusal: the words spell no program of the form
+abbrev pub HaltsOutside : List ℕ → Halt → Type 0
+HaltsOutside tokens (Refused r) = (r ≡ refusal U1 0) × ((p : Shader) → IsStraightLine tokens p → ⊥)
+HaltsOutside tokens NoMemory = ⊤
