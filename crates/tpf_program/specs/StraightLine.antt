@@ -9,8 +9,8 @@ use Rattle.tpf_program.specs.declared.declaration.Declaration.{Declaration}
 use Rattle.tpf_program.specs.declared.declaration.Declaration.TheVariants.{Group}
 use Rattle.tpf_program.specs.declared.instruction.Instruction.{Instruction}
 use Rattle.tpf_program.specs.Program.{Shader}
-use Rattle.tpf_program.specs.Spelling.{Spells}
-use Rattle.tpf_program.specs.Declarations.{declaration_refusals}
+use Rattle.tpf_program.specs.Spelling.{IsToken, controls_of, HasNoOperands, Spells}
+use Rattle.tpf_program.specs.Declarations.{is_group, declaration_refusals}
 
 -- the declarations and instructions of the form
 abbrev pub is_built : Declaration → Bool
@@ -41,3 +41,23 @@ pub record IsStraightLine (tokens : List ℕ) (p : Shader) : Type 0 where
 abbrev pub HaltsOutside : List ℕ → Halt → Type 0
 HaltsOutside tokens (Refused r) = (r ≡ refusal U1 0) × ((p : Shader) → IsStraightLine tokens p → ⊥)
 HaltsOutside tokens NoMemory = ⊤
+
+-- words that declare a thread group and return, and do no more
+pub record ReturnsAtOnce (tokens : List ℕ) : Type 0 where
+  pub group : ℕ
+  pub x : ℕ
+  pub y : ℕ
+  pub z : ℕ
+  pub last : ℕ
+  pub whole : tokens ≡ 0x00050050 ∷ 7 ∷ group ∷ x ∷ y ∷ z ∷ last ∷ []
+  pub declares : IsToken group 155 4
+  pub threads : IsTrue (is_group x y z)
+  pub ends : IsToken last 62 1
+
+-- an instruction of one word, without operands
+pub record IsReturn (place token code : ℕ) (i : Instruction) : Type 0 where
+  pub at : i.place ≡ place
+  pub size : i.length ≡ 1
+  pub opcode : i.code ≡ code
+  pub controls : i.controls ≡ controls_of token
+  pub operands : HasNoOperands i []
