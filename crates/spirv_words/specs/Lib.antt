@@ -1,0 +1,4 @@
+pub mod Operations
+pub mod Layouts
+pub mod Text
+pub mod Smallest
