@@ -5,8 +5,8 @@ use Rattle.std.specs.List.{list_any, list_all}
 use Rattle.std.proofs.lemmas.Bool.Decides.{nat_tests}
 use Rattle.word_base.specs.Words.{words_of}
 use Rattle.word_base.specs.declared.rule.Refusal.{Refusal}
-use Rattle.word_base.specs.declared.rule.Rule.TheVariants.{L1, L2, L3, L4, L7}
-use Rattle.word_base.specs.Rules.{broken, refusal}
+use Rattle.word_base.specs.declared.rule.Rule.TheVariants.{L1, L2, L3, L4, L7, U1}
+use Rattle.word_base.specs.Rules.{broken, comes_before, refusal, IsFirst}
 use Rattle.tpf_program.specs.declared.declaration.Declaration.{Declaration}
 use Rattle.tpf_program.specs.declared.declaration.Declaration.TheVariants.{Flags, Constants, Resource, Uav, Shared, Input, Temps, Indexable, Group, ImmediateConstants}
 use Rattle.tpf_program.specs.declared.declaration.Declared.{Declared}
@@ -14,7 +14,7 @@ use Rattle.tpf_program.specs.declared.instruction.Instruction.{Instruction}
 use Rattle.tpf_program.specs.Program.{Shader}
 use Rattle.tpf_program.specs.Spelling.{IsToken, Item, Declares, Does, SpellsDeclaration, SpellsInstruction, SpellsItem, SpellsItems, SpellsOperands, HasNoOperands, Spells, declarations_in, instructions_in}
 use Rattle.tpf_program.specs.Declarations.{is_group, refusals_at, refusals_from, declaration_refusals, declares_group, has_sizes, is_past_limit, same_thing}
-use Rattle.tpf_program.specs.StraightLine.{is_built, returns, is_built_code, ReturnsAtEnd, IsStraightLine, ReturnsAtOnce}
+use Rattle.tpf_program.specs.StraightLine.{is_built, returns, is_built_code, ReturnsAtEnd, IsStraightLine, IsOutside, ReturnsAtOnce}
 use Rattle.tpf_program.proofs.Shortest.{nothing_joined, not_broken}
 
 -- Tests of lists.
@@ -192,9 +192,16 @@ only tokens p s =
     let group = not_false (list_any (λ d. declares_group d.what) p.declarations) (not_broken (not (list_any (λ d. declares_group d.what) p.declarations)) (refusal L4 p.words) parts.1) in
     whole_words p tokens s (declares_by p p.declarations refl s.declarations parts.0 group) (one_return p.instructions s.instructions s.end)
 
-pub not_bytes : (bytes : List ℕ) → (ReturnsAtOnce (words_of bytes) → ⊥) → (p : Shader) → IsStraightLine (words_of bytes) p → ⊥
-not_bytes bytes h p s = h (only (words_of bytes) p s)
+-- the one broken rule is the first
+pub outside : (tokens : List ℕ) → ((p : Shader) → IsStraightLine tokens p → ⊥) → IsFirst (IsOutside tokens) (refusal U1 0)
+outside tokens h = record {
+  is_broken = record { rule = refl; none = h };
+  is_least = λ q b. subst (λ r. comes_before r (refusal U1 0) ≡ false) (sym b.rule) refl;
+}
+
+pub not_bytes : (bytes : List ℕ) → (ReturnsAtOnce (words_of bytes) → ⊥) → IsFirst (IsOutside (words_of bytes)) (refusal U1 0)
+not_bytes bytes h = outside (words_of bytes) (λ p s. h (only (words_of bytes) p s))
 
 -- words of another number
-pub not_seven : (tokens : List ℕ) (n : ℕ) → length tokens ≡ n / 4 → n % 4 ≡ 0 → (n ≡ 28 → ⊥) → (p : Shader) → IsStraightLine tokens p → ⊥
-not_seven tokens n l m h p s = let e : length tokens ≡ 7 = ap length (only tokens p s).whole in h (omega arith)
+pub not_seven : (tokens : List ℕ) (n : ℕ) → length tokens ≡ n / 4 → n % 4 ≡ 0 → (n ≡ 28 → ⊥) → IsFirst (IsOutside tokens) (refusal U1 0)
+not_seven tokens n l m h = outside tokens (λ p s. let e : length tokens ≡ 7 = ap length (only tokens p s).whole in h (omega arith))

@@ -1,8 +1,7 @@
 -- The form of program that is read: a straight line.
-use Rattle.std.specs.Prelude.{◌≡◌, ℕ, ◌≤◌, nat_eq, not, Bool, true, false, IsTrue, List, [], ◌∷◌, ◌++◌, length, Result, Ok, Err, ⊤}
+use Rattle.std.specs.Prelude.{◌≡◌, ℕ, ◌≤◌, nat_eq, not, Bool, true, false, IsTrue, List, [], ◌∷◌, ◌++◌, length}
 use Rattle.std.specs.List.{list_all}
-use Rattle.word_base.specs.declared.rule.Halt.{Halt}
-use Rattle.word_base.specs.declared.rule.Halt.TheVariants.{Refused, NoMemory}
+use Rattle.word_base.specs.declared.rule.Refusal.{Refusal}
 use Rattle.word_base.specs.declared.rule.Rule.TheVariants.{U1}
 use Rattle.word_base.specs.Rules.{refusal}
 use Rattle.tpf_program.specs.declared.declaration.Declaration.{Declaration}
@@ -37,10 +36,10 @@ pub record IsStraightLine (tokens : List ℕ) (p : Shader) : Type 0 where
   pub end : ReturnsAtEnd p.instructions
   pub sound : declaration_refusals p ≡ []
 
--- the reader's refusal: the words spell no program of the form
-abbrev pub HaltsOutside : List ℕ → Halt → Type 0
-HaltsOutside tokens (Refused r) = (r ≡ refusal U1 0) × ((p : Shader) → IsStraightLine tokens p → ⊥)
-HaltsOutside tokens NoMemory = ⊤
+-- the one broken rule of words that spell no program of the form
+pub record IsOutside (tokens : List ℕ) (r : Refusal) : Type 0 where
+  pub rule : r ≡ refusal U1 0
+  pub none : (p : Shader) → IsStraightLine tokens p → ⊥
 
 -- words that declare a thread group and return, and do no more
 pub record ReturnsAtOnce (tokens : List ℕ) : Type 0 where

@@ -1,8 +1,9 @@
 ghost use Rattle.std.specs.Prelude.{◌≡◌, ℕ, ◌+◌, ◌*◌, ◌%◌, ◌<◌, ◌≤◌, ◌↔◌, length, IsTrue, IfOk, IfErr};
+ghost use Rattle.word_base.specs.Rules.{HaltsBy};
 ghost use Rattle.word_base.specs.Words.{words_of};
 ghost use Rattle.tpf_program.specs.Spelling.{IsToken};
 ghost use Rattle.tpf_program.specs.Declarations.{is_group};
-ghost use Rattle.tpf_program.specs.StraightLine.{IsStraightLine, HaltsOutside, ReturnsAtOnce, IsReturn};
+ghost use Rattle.tpf_program.specs.StraightLine.{IsStraightLine, IsOutside, ReturnsAtOnce, IsReturn};
 
 use crate::declaration::{Declaration, Declared};
 use crate::instruction::{Instruction, NOTHING};
@@ -33,7 +34,7 @@ pub fn read(alloc: Global, bytes: &[u8]) -> Result<Program, Halt>
     requires head { 8 ≤ length bytes.now }
     requires size { length bytes.now ≤ 16777216 }
     ensures ok { IfOk result (λ p. IsStraightLine (words_of bytes.now) p) }
-    ensures halted { IfErr result (λ h. HaltsOutside (words_of bytes.now) h) }
+    ensures halted { IfErr result (HaltsBy (IsOutside (words_of bytes.now))) }
 {
     word_laws();
     if bytes.len() != 28 {

@@ -1,10 +1,12 @@
 -- Rules, and which of the broken ones counts. The phases are those of the translator, one after the other: the sizes of the
 -- files and the container (2), the head of the program (3), its size (4), its tokens (5), its declarations (6), its structure (7),
 -- the bindings (8), their completeness (9) and the dispatch (10).
-use Rattle.std.specs.Prelude.{◌≡◌, ℕ, nat_eq, nat_le, nat_lt, ◌&&◌, ◌||◌, if◌then◌else◌, Bool, false, List, [], ◌∷◌, Option, Some, None, refl}
+use Rattle.std.specs.Prelude.{◌≡◌, ℕ, nat_eq, nat_le, nat_lt, ◌&&◌, ◌||◌, if◌then◌else◌, Bool, false, List, [], ◌∷◌, Option, Some, None, refl, ⊤}
 use Rattle.word_base.specs.declared.rule.Rule.{Rule}
 use Rattle.word_base.specs.declared.rule.Rule.TheVariants.{M1, C1, C2, C3, C4, C5, C6, C7, C8, C9, K1, K2, M2, M4, K3, K4, K5, K6, K7, K8, K9, K10, K11, K12, K13, K14, K15, L1, L2, L3, L4, L5, L6, L7, L8, S1, S2, S3, S4, S5, S6, S7, S8, S9, M3, U1, G1, G2, G3, G4, G5, G6, B1, B2, B3, X1, X2, X3, X4, X5}
 use Rattle.word_base.specs.declared.rule.Refusal.{Refusal}
+use Rattle.word_base.specs.declared.rule.Halt.{Halt}
+use Rattle.word_base.specs.declared.rule.Halt.TheVariants.{Refused, NoMemory}
 
 -- when a rule is tested: its phase, and its number among the rules of the phase
 pub record Order : Type 0 where
@@ -116,6 +118,11 @@ pub record IsFirst (broken : Refusal → Type 0) (r : Refusal) : Type 0 where
 -- no rule is broken
 abbrev pub IsSound : (Refusal → Type 0) → Type 0
 IsSound broken = (q : Refusal) → broken q → ⊥
+
+-- Why a call that reads an input stopped: by the first broken rule, or for want of memory, of which nothing is said.
+abbrev pub HaltsBy : (Refusal → Type 0) → Halt → Type 0
+HaltsBy broken (Refused r) = IsFirst broken r
+HaltsBy broken NoMemory = ⊤
 
 -- the first of a list of broken rules
 abbrev pub earlier : Refusal → Option Refusal → Refusal
