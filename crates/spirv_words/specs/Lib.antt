@@ -2,3 +2,12 @@ pub mod Operations
 pub mod Layouts
 pub mod Text
 pub mod Smallest
+pub mod Ids
+pub mod Sorts
+pub mod Operands
+pub mod Values
+pub mod Meanings
+pub mod Globals
+pub mod Memory
+pub mod Lane
+pub mod LaneExamples

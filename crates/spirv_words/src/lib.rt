@@ -2,7 +2,8 @@
 //! module, and the form that a module must have.
 //!
 //! The definitions stand in `specs/`: `Operations` for the instructions' numbers, `Layouts` for
-//! their operands, `Text` for a module and its words.
+//! their operands, `Text` for a module and its words; `Ids`, `Sorts` and `Operands` for what ids are;
+//! `Values`, `Meanings`, `Globals`, `Memory` and `Lane` for what a lane does.
 #![tactic(auto)]
 
 mod writer;

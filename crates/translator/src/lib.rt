@@ -1,13 +1,9 @@
-// A library with one function.
+//! The whole translation: a container with a token program goes in, the words of a SPIR-V module
+//! come out, or the first broken rule.
+//!
+//! The definitions stand in `specs/`: `Means` says what a module owes to the program that it was
+//! translated from, `Bindings` what a binding map is, `Input` which inputs are translated.
 #![tactic(auto)]
 
-ghost use Rattle.std.specs.Prelude.{◌≡◌};
-ghost use Rattle.translator.specs.Echo.{echo_of};
+mod emitter;
 
-// The `ensures` clause is the contract: what `echo` returns is `echo_of` of its argument, a definition
-// in `specs/Echo.antt`, which a caller's clause can cite too.
-pub fn echo(x: usize) -> usize
-    ensures { result ≡ echo_of x }
-{
-    x
-}

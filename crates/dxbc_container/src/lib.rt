@@ -1,0 +1,9 @@
+//! DXBC containers: their chunks, the one chunk of a tag, and the chunk `SHEX` that holds a program.
+//!
+//! The definitions stand in `specs/`: `Layout` for the words of a container, `Refusals` for the rules
+//! that it may break, and `Chunks` for its chunks.
+#![tactic(auto)]
+
+mod part;
+
+pub use part::{Slice, Tagged};

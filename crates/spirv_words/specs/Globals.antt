@@ -1,0 +1,190 @@
+-- What a module's constants and global variables stand for, by their first definition in front of the function, under a lane's setting
+-- and the places of rooms, constant buffers and push words (SPIR-V specification, unified1, sections 2.4 and 3.52.7 to 3.52.8).
+use Rattle.std.specs.Prelude.{ℕ, ◌+◌, ◌-◌, nat_eq, nat_lt, nat_le, if◌then◌else◌, Bool, true, false, ◌&&◌, List, [], ◌∷◌, replicate, map, filter, find, position, Option, Some, None, Ok, Err, slice_get, slice_index, option_map, option_and_then}
+use Rattle.word_base.specs.declared.event.Ids.{Ids}
+use Rattle.word_base.specs.declared.event.Room.{Room}
+use Rattle.word_base.specs.declared.event.Room.TheVariants.{Shared}
+use Rattle.word_base.specs.Settings.{Setting}
+use Rattle.spirv_words.specs.Operations.{Op, op_of, OpConstantTrue, OpConstantFalse, OpConstant, OpConstantNull, OpConstantComposite, OpVariable}
+use Rattle.spirv_words.specs.Text.{Instr}
+use Rattle.spirv_words.specs.Ids.{definition, declared}
+use Rattle.spirv_words.specs.Sorts.{Sort, Words, Truths, Vector, Array, sort_of, is_words}
+use Rattle.spirv_words.specs.Values.{Value, Word, Truth, Parts, AtLocal, AtRoom, AtConstants, AtPush, AtInput, Beyond, cells_of, Got}
+
+-- the room at a set and binding
+pub record RoomPlace : Type 0 where
+  pub set : ℕ
+  pub binding : ℕ
+  pub room : Room
+
+-- the constant buffer at a set and binding, by its slot
+pub record SlotPlace : Type 0 where
+  pub set : ℕ
+  pub binding : ℕ
+  pub slot : ℕ
+
+-- the push constant words of a constant buffer
+pub record PushPlace : Type 0 where
+  pub first : ℕ
+  pub count : ℕ
+  pub slot : ℕ
+
+-- Where a lane finds what is bound, and the slots of shared memory, ascending.
+pub record Places : Type 0 where
+  pub rooms : List RoomPlace
+  pub slots : List SlotPlace
+  pub pushes : List PushPlace
+  pub shared : List ℕ
+
+-- a module's instructions with all that a lane of it is given
+pub record Machine : Type 0 where
+  pub code : List Instr
+  pub places : Places
+  pub setting : Setting
+
+-- the literals of the first decoration of that kind on an id, and on a member of it
+abbrev pub decorates : ℕ → ℕ → Instr → Bool
+decorates x kind i = nat_eq i.op 71 && (nat_eq (slice_index i.operands 0) x && nat_eq (slice_index i.operands 1) kind)
+
+abbrev pub decorates_member : ℕ → ℕ → ℕ → Instr → Bool
+decorates_member x k kind i =
+    nat_eq i.op 72 && (nat_eq (slice_index i.operands 0) x && (nat_eq (slice_index i.operands 1) k && nat_eq (slice_index i.operands 2) kind))
+
+abbrev pub decoration : List Instr → ℕ → ℕ → Option ℕ
+decoration code x kind = option_and_then (λ i. slice_get i.operands 2) (find (decorates x kind) code)
+
+abbrev pub member_decoration : List Instr → ℕ → ℕ → ℕ → Option ℕ
+member_decoration code x k kind = option_and_then (λ i. slice_get i.operands 3) (find (decorates_member x k kind) code)
+
+-- descriptor set 34 and binding 33
+abbrev pub bound_room : Places → Option ℕ → Option ℕ → Option Room
+bound_room places (Some set) (Some binding) = option_map (λ p. p.room) (find (λ p. nat_eq p.set set && nat_eq p.binding binding) places.rooms)
+bound_room places set binding = None
+
+abbrev pub bound_slot : Places → Option ℕ → Option ℕ → Option ℕ
+bound_slot places (Some set) (Some binding) = option_map (λ p. p.slot) (find (λ p. nat_eq p.set set && nat_eq p.binding binding) places.slots)
+bound_slot places set binding = None
+
+-- the word of a push constant, 0 where no constant buffer has it
+abbrev pub pushed : Setting → ℕ → Option PushPlace → ℕ
+pushed setting w None = 0
+pushed setting w (Some p) = slice_index (setting.constants p.slot) (w - p.first)
+
+abbrev pub push_word : Machine → ℕ → ℕ
+push_word m w = pushed m.setting w (find (λ p. nat_le p.first w && nat_lt w (p.first + p.count)) m.places.pushes)
+
+-- The k-th Workgroup variable is the k-th slot of shared memory that has words.
+abbrev pub is_workgroup : Instr → Bool
+is_workgroup i = nat_eq i.op 59 && nat_eq (slice_index i.operands 2) 4
+
+abbrev pub workgroup_ids : List Instr → List ℕ
+workgroup_ids code = map (λ i. slice_index i.operands 1) (filter is_workgroup (declared code))
+
+abbrev pub filled_slots : Machine → List ℕ
+filled_slots m = filter (λ k. nat_lt 0 (m.setting.extent (Shared k))) m.places.shared
+
+abbrev pub shared_slot : Machine → ℕ → Option ℕ
+shared_slot m x = option_and_then (slice_get (filled_slots m)) (position (nat_eq x) (workgroup_ids m.code))
+
+-- the lane's numbers of a built-in: WorkgroupId 26, LocalInvocationId 27, GlobalInvocationId 28, LocalInvocationIndex 29
+abbrev pub built_in : Ids → ℕ → List ℕ
+built_in ids kind =
+    if nat_eq kind 26 then ids.group_x ∷ ids.group_y ∷ ids.group_z ∷ [] else
+    if nat_eq kind 27 then ids.x ∷ ids.y ∷ ids.z ∷ [] else
+    if nat_eq kind 28 then ids.thread_x ∷ ids.thread_y ∷ ids.thread_z ∷ [] else
+    if nat_eq kind 29 then ids.flat ∷ [] else
+    []
+
+abbrev pub is_built_in : ℕ → Bool
+is_built_in kind = nat_le 26 kind && nat_le kind 29
+
+abbrev pub input_by : Option ℕ → Option Value
+input_by None = None
+input_by (Some kind) = if is_built_in kind then Some (AtInput kind 0) else None
+
+-- a variable by its storage class: Input 1, Uniform 2, Workgroup 4, Private 6, PushConstant 9, StorageBuffer 12
+abbrev pub variable_value : Machine → ℕ → ℕ → Option Value
+variable_value m x class =
+    if nat_eq class 12 then option_map (λ r. AtRoom r 0) (bound_room m.places (decoration m.code x 34) (decoration m.code x 33)) else
+    if nat_eq class 2 then option_map (λ s. AtConstants s 0) (bound_slot m.places (decoration m.code x 34) (decoration m.code x 33)) else
+    if nat_eq class 4 then option_map (λ s. AtRoom (Shared s) 0) (shared_slot m x) else
+    if nat_eq class 1 then input_by (decoration m.code x 11) else
+    if nat_eq class 9 then Some (AtPush 0) else
+    if nat_eq class 6 then Some (AtLocal x 0) else
+    None
+
+-- the word of a constant
+abbrev pub null_word : Sort → Option ℕ
+null_word Words = Some 0
+null_word s = None
+
+abbrev pub word_in : List Instr → Option Op → List ℕ → Option ℕ
+word_in code (Some OpConstant) (t ∷ r ∷ word ∷ []) = Some word
+word_in code (Some OpConstantNull) (t ∷ r ∷ []) = null_word (sort_of code t)
+word_in code op os = None
+
+abbrev pub word_of_instr : List Instr → Option Instr → Option ℕ
+word_of_instr code None = None
+word_of_instr code (Some i) = word_in code (op_of i.op) i.operands
+
+abbrev pub constant_word : List Instr → ℕ → Option ℕ
+constant_word code x = word_of_instr code (definition (declared code) x)
+
+-- a null, and a composite whose parts are words
+abbrev pub null_parts : Bool → ℕ → Value
+null_parts of_words count = if of_words then Parts (replicate count 0) else Beyond
+
+abbrev pub null_value : List Instr → Sort → Value
+null_value code Words = Word 0
+null_value code Truths = Truth false
+null_value code (Vector element count) = null_parts (is_words (sort_of code element)) count
+null_value code (Array element count) = null_parts (is_words (sort_of code element)) count
+null_value code s = Beyond
+
+abbrev pub with_word : Option ℕ → Option (List ℕ) → Option (List ℕ)
+with_word (Some w) (Some ws) = Some (w ∷ ws)
+with_word w ws = None
+
+abbrev pub constant_words : List Instr → List ℕ → Option (List ℕ)
+constant_words code [] = Some []
+constant_words code (x ∷ xs) = with_word (constant_word code x) (constant_words code xs)
+
+abbrev pub composite_by : Option (List ℕ) → Value
+composite_by None = Beyond
+composite_by (Some ws) = Parts ws
+
+abbrev pub value_by : Machine → Op → List ℕ → Option Value
+value_by m OpConstant (t ∷ r ∷ word ∷ []) = Some (Word word)
+value_by m OpConstantTrue os = Some (Truth true)
+value_by m OpConstantFalse os = Some (Truth false)
+value_by m OpConstantNull (t ∷ r ∷ []) = Some (null_value m.code (sort_of m.code t))
+value_by m OpConstantComposite (t ∷ r ∷ xs) = Some (composite_by (constant_words m.code xs))
+value_by m OpVariable (t ∷ r ∷ class ∷ rest) = variable_value m r class
+value_by m op os = None
+
+abbrev pub value_of_op : Machine → Option Op → List ℕ → Option Value
+value_of_op m None os = None
+value_of_op m (Some op) os = value_by m op os
+
+abbrev pub value_of_instr : Machine → Option Instr → Option Value
+value_of_instr m None = None
+value_of_instr m (Some i) = value_of_op m (op_of i.op) i.operands
+
+abbrev pub global : Machine → ℕ → Option Value
+global m x = value_of_instr m (definition (declared m.code) x)
+
+-- the memory at the start: Private variables hold their initializers
+abbrev pub cell : Got (List ℕ) → ℕ → Option ℕ
+cell (Ok ws) w = slice_get ws w
+cell (Err rule) w = None
+
+abbrev pub initial_by : Machine → List ℕ → ℕ → Option ℕ
+initial_by m (t ∷ r ∷ class ∷ x ∷ []) w = if nat_eq class 6 then cell (cells_of (global m x)) w else None
+initial_by m os w = None
+
+abbrev pub initial_of : Machine → Option Instr → ℕ → Option ℕ
+initial_of m None w = None
+initial_of m (Some i) w = if nat_eq i.op 59 then initial_by m i.operands w else None
+
+abbrev pub initial_memory : Machine → ℕ → ℕ → Option ℕ
+initial_memory m x w = initial_of m (definition (declared m.code) x) w

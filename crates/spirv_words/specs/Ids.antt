@@ -1,0 +1,107 @@
+-- The ids of an instruction, read from its operands by its layout.
+use Rattle.std.specs.Prelude.{◌≡◌, ℕ, nat_eq, if◌then◌else◌, Bool, true, false, ◌&&◌, List, [], ◌∷◌, Option, Some, None, find, refl}
+use Rattle.std.specs.List.{list_any}
+use Rattle.spirv_words.specs.Operations.{Op, op_of}
+use Rattle.spirv_words.specs.Layouts.{Part, ResultType, Result, Use, Name, Literal, Text, OptionalUse, OptionalLiteral, Uses, Names, Literals, Targets, layout_of, ends_text}
+use Rattle.spirv_words.specs.Text.{Instr, instr}
+
+-- the ids that an instruction defines, those that it uses, and those that it names
+pub record Ids : Type 0 where
+  pub results : List ℕ
+  pub uses : List ℕ
+  pub names : List ℕ
+
+abbrev pub no_ids : Ids
+no_ids = record { results = []; uses = []; names = [] }
+
+abbrev pub add_result : ℕ → Ids → Ids
+add_result x ids = record { results = x ∷ ids.results; uses = ids.uses; names = ids.names }
+
+abbrev pub add_use : ℕ → Ids → Ids
+add_use x ids = record { results = ids.results; uses = x ∷ ids.uses; names = ids.names }
+
+abbrev pub add_name : ℕ → Ids → Ids
+add_name x ids = record { results = ids.results; uses = ids.uses; names = x ∷ ids.names }
+
+abbrev pub add_none : ℕ → Ids → Ids
+add_none x ids = ids
+
+-- the words behind a text
+abbrev pub behind_text : List ℕ → List ℕ
+behind_text [] = []
+behind_text (word ∷ rest) = if ends_text word then rest else behind_text rest
+
+-- the second word of each pair
+abbrev pub seconds : List ℕ → List ℕ
+seconds [] = []
+seconds (value ∷ []) = []
+seconds (value ∷ label ∷ rest) = label ∷ seconds rest
+
+abbrev pub ids_from : (ℕ → Ids → Ids) → (List ℕ → Ids) → List ℕ → Ids
+ids_from add further [] = no_ids
+ids_from add further (word ∷ rest) = add word (further rest)
+
+abbrev pub ids_of_part : Part → (List ℕ → Ids) → List ℕ → Ids
+ids_of_part ResultType further words = ids_from add_use further words
+ids_of_part Result further words = ids_from add_result further words
+ids_of_part Use further words = ids_from add_use further words
+ids_of_part Name further words = ids_from add_name further words
+ids_of_part Literal further words = ids_from add_none further words
+ids_of_part Text further words = further (behind_text words)
+ids_of_part OptionalUse further words = ids_from add_use further words
+ids_of_part OptionalLiteral further words = ids_from add_none further words
+ids_of_part Uses further words = record { results = []; uses = words; names = [] }
+ids_of_part Names further words = record { results = []; uses = []; names = words }
+ids_of_part Literals further words = no_ids
+ids_of_part Targets further words = record { results = []; uses = []; names = seconds words }
+
+abbrev pub ids_in : List Part → List ℕ → Ids
+ids_in [] words = no_ids
+ids_in (part ∷ parts) words = ids_of_part part (ids_in parts) words
+
+abbrev pub parts_of : Option Op → List Part
+parts_of None = []
+parts_of (Some op) = layout_of op
+
+abbrev pub ids_of : Instr → Ids
+ids_of i = ids_in (parts_of (op_of i.op)) i.operands
+
+abbrev pub contains : List ℕ → ℕ → Bool
+contains xs x = list_any (λ y. nat_eq y x) xs
+
+abbrev pub list_eq : List ℕ → List ℕ → Bool
+list_eq [] [] = true
+list_eq (x ∷ xs) (y ∷ ys) = nat_eq x y && list_eq xs ys
+list_eq xs ys = false
+
+-- the first instruction with that result
+abbrev pub definition : List Instr → ℕ → Option Instr
+definition code x = find (λ i. contains (ids_of i).results x) code
+
+-- The declarations: all instructions in front of the first function (section 2.4, Logical Layout of a Module).
+abbrev pub declared : List Instr → List Instr
+declared [] = []
+declared (i ∷ rest) = if nat_eq i.op 54 then [] else i ∷ declared rest
+
+-- the type of an instruction's result
+abbrev pub type_in : List Part → List ℕ → Option ℕ
+type_in (ResultType ∷ parts) (t ∷ rest) = Some t
+type_in parts words = None
+
+abbrev pub type_of_instr : Option Instr → Option ℕ
+type_of_instr None = None
+type_of_instr (Some i) = type_in (parts_of (op_of i.op)) i.operands
+
+-- the type of an id
+abbrev pub type_of : List Instr → ℕ → Option ℕ
+type_of code x = type_of_instr (definition code x)
+
+-- Examples: a choice between two words; a switch with two cases; an entry point with one variable.
+pub select_ids : ids_of (instr 169 (2 ∷ 9 ∷ 5 ∷ 6 ∷ 7 ∷ [])) ≡ record { results = 9 ∷ []; uses = 2 ∷ 5 ∷ 6 ∷ 7 ∷ []; names = [] }
+select_ids = refl
+
+pub switch_ids : ids_of (instr 251 (9 ∷ 20 ∷ 0 ∷ 21 ∷ 7 ∷ 22 ∷ [])) ≡ record { results = []; uses = 9 ∷ []; names = 20 ∷ 21 ∷ 22 ∷ [] }
+switch_ids = refl
+
+pub entry_ids : ids_of (instr 15 (5 ∷ 1 ∷ 0x6E69616D ∷ 0 ∷ 8 ∷ [])) ≡ record { results = []; uses = []; names = 1 ∷ 8 ∷ [] }
+entry_ids = refl

@@ -1,0 +1,81 @@
+-- What a binding map is: which registers of a program are bound, and where.
+use Rattle.std.specs.Prelude.{◌≡◌, ℕ, ◌+◌, ◌*◌, ◌<◌, ◌≤◌, nat_eq, nat_lt, zero, suc, if◌then◌else◌, List, [], ◌∷◌, filter, length, Option, Some, None, slice_get}
+use Rattle.std.specs.List.{filter_map}
+use Rattle.word_base.specs.declared.event.Room.TheVariants as room
+use Rattle.word_base.specs.Settings.{Setting}
+use Rattle.tpf_program.specs.declared.declaration.Declaration.{Declaration}
+use Rattle.tpf_program.specs.declared.declaration.Declaration.TheVariants.{Constants}
+use Rattle.tpf_program.specs.declared.declaration.Declared.{Declared}
+use Rattle.tpf_program.specs.Program.{Shader}
+use Rattle.tpf_program.specs.Extents.{shared_extent}
+use Rattle.spirv_words.specs.Globals.{Places, RoomPlace, SlotPlace, PushPlace}
+
+-- what is bound: a constant buffer, a view, or the counter of a view
+pub data Register : Type 0 where
+  Constant : (slot : ℕ) → Register
+  Resource : (slot : ℕ) → Register
+  Uav : (slot : ℕ) → Register
+  Counter : (slot : ℕ) → Register
+
+-- where it is bound: at a descriptor, or, for a constant buffer, in that many push constant words from that one on
+pub data Place : Type 0 where
+  Bound : (set binding : ℕ) → Place
+  Push : (first count : ℕ) → Place
+
+pub record Binding : Type 0 where
+  pub register : Register
+  pub place : Place
+
+-- the rooms, constant buffers and push words of a map
+abbrev pub room_at : Register → Place → Option RoomPlace
+room_at (Resource slot) (Bound set binding) = Some (record { set = set; binding = binding; room = room.Resource slot })
+room_at (Uav slot) (Bound set binding) = Some (record { set = set; binding = binding; room = room.Uav slot })
+room_at (Counter slot) (Bound set binding) = Some (record { set = set; binding = binding; room = room.Counter slot })
+room_at register place = None
+
+abbrev pub slot_at : Register → Place → Option SlotPlace
+slot_at (Constant slot) (Bound set binding) = Some (record { set = set; binding = binding; slot = slot })
+slot_at register place = None
+
+abbrev pub push_at : Register → Place → Option PushPlace
+push_at (Constant slot) (Push first count) = Some (record { first = first; count = count; slot = slot })
+push_at register place = None
+
+-- the numbers from one on, that many
+abbrev pub numbers_from : ℕ → ℕ → List ℕ
+numbers_from n zero = []
+numbers_from n (suc k) = n ∷ numbers_from (n + 1) k
+
+-- the slots of shared memory that have words, ascending
+abbrev pub shared_slots : Shader → List ℕ
+shared_slots p = filter (λ slot. nat_lt 0 (shared_extent slot p.declarations)) (numbers_from 0 64)
+
+-- where a module's lane finds what a program's map binds
+abbrev pub places_of : Shader → List Binding → Places
+places_of p bindings = record {
+  rooms = filter_map (λ b. room_at b.register b.place) bindings;
+  slots = filter_map (λ b. slot_at b.register b.place) bindings;
+  pushes = filter_map (λ b. push_at b.register b.place) bindings;
+  shared = shared_slots p;
+}
+
+-- the vectors that a program declares for a constant buffer, 0 for one that it does not declare
+abbrev pub vectors_declared : ℕ → Declaration → ℕ
+vectors_declared slot (Constants s size) = if nat_eq s slot then size else 0
+vectors_declared slot other = 0
+
+abbrev pub vectors_of : ℕ → List Declared → ℕ
+vectors_of slot [] = 0
+vectors_of slot (d ∷ rest) = if nat_eq (vectors_declared slot d.what) 0 then vectors_of slot rest else vectors_declared slot d.what
+
+-- The words that a dispatch gives for a declared constant buffer: four or more for each vector at a descriptor, exactly its push words
+-- in push constants.
+abbrev pub HoldsConstants : Shader → Setting → Register → Place → Type 0
+HoldsConstants p setting (Constant slot) (Bound set binding) = 4 * vectors_of slot p.declarations ≤ length (setting.constants slot)
+HoldsConstants p setting (Constant slot) (Push first count) = 0 < vectors_of slot p.declarations → length (setting.constants slot) ≡ count
+HoldsConstants p setting register place = Unit {0}
+
+-- A setting gives the words of constant buffers that a program and its map ask for, and none for a buffer that is not declared.
+pub record FitsConstants (p : Shader) (bindings : List Binding) (setting : Setting) : Type 0 where
+  pub bound : (k : ℕ) (b : Binding) → slice_get bindings k ≡ Some b → HoldsConstants p setting b.register b.place
+  pub undeclared : (slot : ℕ) → vectors_of slot p.declarations ≡ 0 → setting.constants slot ≡ []

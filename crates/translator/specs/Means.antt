@@ -1,0 +1,35 @@
+-- What a module owes to the program that it was translated from.
+use Rattle.std.specs.Prelude.{◌≡◌, ℕ, List, [], ◌∷◌, Option, Some, None}
+use Rattle.word_base.specs.Words.{words_of}
+use Rattle.word_base.specs.Lanes.{Standing, Forward, NeverWrong}
+use Rattle.word_base.specs.Settings.{Setting}
+use Rattle.dxbc_container.specs.Chunks.{IsShex}
+use Rattle.tpf_program.specs.Program.{Shader}
+use Rattle.tpf_program.specs.Spelling.{Spells}
+use Rattle.tpf_program.specs.Extents.{FitsRooms}
+use Rattle.tpf_program.specs.Bytecode as bytecode
+use Rattle.spirv_words.specs.Text.{Module, IsTextOf}
+use Rattle.spirv_words.specs.Lane as lane
+use Rattle.translator.specs.Bindings.{Binding, places_of, FitsConstants}
+
+-- a setting that a dispatch may give to a lane of the program
+pub record Fits (p : Shader) (bindings : List Binding) (setting : Setting) : Type 0 where
+  pub rooms : FitsRooms p setting
+  pub constants : FitsConstants p bindings setting
+
+-- Under one setting the module's lane makes the events of the program's lane in the same order, ends where it ends, and is never wrong,
+-- whatever the answers are.
+pub record FollowsIn (p : Shader) (bindings : List Binding) (m : Module) (setting : Setting) : Type 0 where
+  pub forward : Forward (bytecode.step p setting) (lane.lane m (places_of p bindings) setting) bytecode.start (lane.start m (places_of p bindings) setting)
+  pub never_wrong : NeverWrong (lane.lane m (places_of p bindings) setting) (lane.start m (places_of p bindings) setting)
+
+-- The words are a module of that version, which has the form of one and does what the program does that the chunk `SHEX` of the bytes
+-- spells, under the binding map.
+pub record Means (bytes : List ℕ) (bindings : List Binding) (version : ℕ) (words : List ℕ) : Type 0 where
+  pub content : List ℕ
+  pub program : Shader
+  pub target : Module
+  pub chunk : IsShex bytes content
+  pub spelled : Spells program (words_of content)
+  pub text : IsTextOf target words
+  pub follows : (setting : Setting) → Fits program bindings setting → FollowsIn program bindings target setting
