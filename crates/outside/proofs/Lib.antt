@@ -1,0 +1,5 @@
+pub mod Lasting
+pub mod Wrote
+pub mod Counting
+pub mod Listing
+pub mod Standing
