@@ -1,4 +1,5 @@
 pub mod Printed
 pub mod Texts
 pub mod Job
+pub mod Command
 pub mod Run

@@ -1,6 +1,8 @@
 //! The program.
 #![tactic(auto)]
 
+mod command;
+mod failure;
 mod printed;
 
 fn main() {}

@@ -11,3 +11,12 @@ pub mod Globals
 pub mod Memory
 pub mod Lane
 pub mod LaneExamples
+pub mod Blocks
+pub mod Structure
+pub mod Definitions
+pub mod Sections
+pub mod Variables
+pub mod Form
+pub mod Broken
+pub mod FormExamples
+pub mod VariableExamples

@@ -1,5 +1,4 @@
-ghost use Rattle.std.specs.Prelude.{◌≡◌, ℕ, ◌++◌, OnOk, OnErr, Some};
-ghost use Rattle.spirv_words.specs.Operations.{Op, op_of, number_of};
+ghost use Rattle.std.specs.Prelude.{◌≡◌, ◌++◌, OnOk, OnErr};
 ghost use Rattle.spirv_words.specs.Text.{IsInstr, instr, words_of_instr};
 
 use word_base::NoMemory;
@@ -23,11 +22,3 @@ pub fn put(out: &mut Vec<u32>, op: u32, operands: &[u32]) -> Result<(), NoMemory
     out.push(65536 * words as u32 + op).map_err(|_| NoMemory)?;
     out.extend_from_slice(operands).map_err(|_| NoMemory)
 }
-
-/// What holds of the numbers of instructions, for the proofs of callers. It does nothing when it
-/// runs.
-#[tactic(auto, using(crate::proofs::Numbers::op_again, crate::proofs::Numbers::found))]
-pub fn number_laws()
-    ensures again { (op : Op) → op_of (number_of op) ≡ Some op }
-    ensures found { (n : ℕ) (op : Op) → op_of n ≡ Some op → number_of op ≡ n }
-{}

@@ -110,3 +110,18 @@ refusals_from p before (d ∷ rest) = refusals_at p before d ++ refusals_from p 
 abbrev pub declaration_refusals : Shader → List Refusal
 declaration_refusals p =
     refusals_from p [] p.declarations ++ broken (not (list_any (λ d. declares_group d.what) p.declarations)) L4 p.words
+
+-- the threads of a group
+pub record Threads : Type 0 where
+  pub x : ℕ
+  pub y : ℕ
+  pub z : ℕ
+
+abbrev pub threads_declared : Declaration → Threads → Threads
+threads_declared (Group x y z) others = record { x = x; y = y; z = z }
+threads_declared other others = others
+
+-- the threads of a program's group, by the first declaration of one; without one there are none
+abbrev pub threads_in : List Declared → Threads
+threads_in [] = record { x = 0; y = 0; z = 0 }
+threads_in (d ∷ rest) = threads_declared d.what (threads_in rest)

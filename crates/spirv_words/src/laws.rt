@@ -1,0 +1,38 @@
+ghost use Rattle.std.specs.Prelude.{◌≡◌, ℕ, List, ◌++◌, Some, IsTrue, All, slice_get};
+ghost use Rattle.spirv_words.specs.Operations.{Op, op_of, number_of};
+ghost use Rattle.spirv_words.specs.Text.{Instr, IsInstr, words_of_code};
+ghost use Rattle.spirv_words.specs.Smallest.{smallest};
+ghost use Rattle.spirv_words.specs.Operands.{is_sorted, is_defined};
+ghost use Rattle.spirv_words.specs.Globals.{Machine};
+ghost use Rattle.spirv_words.specs.Lane.{State, step, act_of_op};
+ghost use Rattle.spirv_words.specs.Sections.{is_version, sized};
+ghost use Rattle.spirv_words.specs.Variables.{nothing_wanted};
+ghost use Rattle.spirv_words.specs.Form.{Form};
+
+/// What holds of the numbers of instructions, for the proofs of callers. It does nothing when it
+/// runs.
+#[tactic(auto, using(crate::proofs::Numbers::op_again, crate::proofs::Numbers::found))]
+pub fn number_laws()
+    ensures again { (op : Op) → op_of (number_of op) ≡ Some op }
+    ensures found { (n : ℕ) (op : Op) → op_of n ≡ Some op → number_of op ≡ n }
+{}
+
+/// What holds of the words of instructions, for the proofs of callers. It does nothing when it
+/// runs.
+#[tactic(auto, using(crate::proofs::Texts::append))]
+pub fn text_laws()
+    ensures append { (xs ys : List Instr) → words_of_code (xs ++ ys) ≡ words_of_code xs ++ words_of_code ys }
+{}
+
+/// What holds of a lane's steps, for the proofs of callers. It does nothing when it runs.
+#[tactic(auto, using(crate::proofs::Steps::sorted))]
+pub fn lane_laws()
+    ensures sorted { (m : Machine) (s : State) (i : Instr) → slice_get m.code s.place ≡ Some i → IsTrue (is_sorted m.code i) → IsTrue (is_defined m.code i) → step m s ≡ act_of_op m s (op_of i.op) i.operands }
+{}
+
+/// What holds of the smallest module, for the proofs of callers. It does nothing when it runs.
+#[tactic(auto, using(crate::proofs::Small::form))]
+pub fn smallest_laws()
+    ensures form { (version x y z : ℕ) → IsTrue (is_version version) → Form version (sized x y z) nothing_wanted (smallest version x y z) }
+    ensures instructions { (version x y z : ℕ) → All IsInstr (smallest version x y z).code }
+{}
