@@ -1,9 +1,20 @@
 -- The chunks of a container.
-use Rattle.std.specs.Prelude.{◌≡◌, ℕ, ◌+◌, ◌<◌, ◌≤◌, List, length, slice_range}
+use Rattle.std.specs.Prelude.{◌≡◌, ℕ, ◌+◌, ◌*◌, ◌<◌, ◌≤◌, List, length, slice_range}
 use Rattle.dxbc_container.specs.declared.part.Slice.{Slice}
 use Rattle.dxbc_container.specs.declared.part.Tagged.{Tagged}
-use Rattle.dxbc_container.specs.Layout.{shex_tag, total_of, count_of, offset_of, tag_of, size_of}
+use Rattle.dxbc_container.specs.Layout.{shex_tag, total_of, count_of, place_of, offset_of, tag_of, size_of}
 use Rattle.dxbc_container.specs.Refusals.{IsContainer}
+
+-- the offsets of the chunks end in the container, and the container in the bytes
+pub record HasTable (bytes : List ℕ) : Type 0 where
+  pub fits : place_of (count_of bytes) ≤ total_of bytes
+  pub within : total_of bytes ≤ length bytes
+
+-- the chunk with that number ends in the container
+pub record IsInside (bytes : List ℕ) (i : ℕ) : Type 0 where
+  pub place : place_of i + 4 ≤ total_of bytes
+  pub head : offset_of bytes i + 8 ≤ total_of bytes
+  pub data_end : offset_of bytes i + 8 + size_of bytes i ≤ total_of bytes
 
 -- The chunk with the number i, counted from 0, begins in the byte offset, has the tag, and holds these bytes.
 pub record IsChunk (bytes : List ℕ) (i offset tag : ℕ) (content : List ℕ) : Type 0 where

@@ -5,5 +5,9 @@
 #![tactic(auto)]
 
 mod part;
+mod reader;
+mod writer;
 
 pub use part::{Slice, Tagged};
+pub use reader::{chunk, chunks, container_laws, shex, sole};
+pub use writer::build;

@@ -1,0 +1,5 @@
+pub mod Firsts
+pub mod Inside
+pub mod Tags
+pub mod Soles
+pub mod Built
