@@ -1,3 +1,5 @@
 pub mod Instructions
 pub mod Ends
 pub mod Follows
+pub mod Threads
+pub mod Whole

@@ -10,7 +10,9 @@ use Rattle.tpf_program.specs.Extents.{FitsRooms}
 use Rattle.tpf_program.specs.Bytecode as bytecode
 use Rattle.spirv_words.specs.Text.{Module, IsTextOf}
 use Rattle.spirv_words.specs.Lane as lane
+use Rattle.spirv_words.specs.Form.{Form}
 use Rattle.translator.specs.Bindings.{Binding, places_of, FitsConstants}
+use Rattle.translator.specs.Wanted.{group_of, wanted_of}
 
 -- a setting that a dispatch may give to a lane of the program
 pub record Fits (p : Shader) (bindings : List Binding) (setting : Setting) : Type 0 where
@@ -32,4 +34,5 @@ pub record Means (bytes : List ℕ) (bindings : List Binding) (version : ℕ) (w
   pub chunk : IsShex bytes content
   pub spelled : Spells program (words_of content)
   pub text : IsTextOf target words
+  pub form : Form version (group_of program) (wanted_of program bindings) target
   pub follows : (setting : Setting) → Fits program bindings setting → FollowsIn program bindings target setting

@@ -2,8 +2,11 @@
 //! come out, or the first broken rule.
 //!
 //! The definitions stand in `specs/`: `Means` says what a module owes to the program that it was
-//! translated from, `Bindings` what a binding map is, `Input` which inputs are translated.
+//! translated from, `Bindings` what a binding map is, `Wanted` which variables a module has for them,
+//! `Input` which rules are broken.
 #![tactic(auto)]
 
 mod emitter;
+mod translation;
 
+pub use translation::translate;
