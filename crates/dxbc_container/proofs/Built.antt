@@ -1,5 +1,5 @@
 -- The container of one chunk meets its rules.
-use Rattle.std.proofs.Common.{◌≡◌, ℕ, zero, suc, ◌+◌, ◌-◌, ◌*◌, ◌/◌, ◌%◌, ◌<◌, ◌≤◌, ◌^◌, List, [], ◌∷◌, ◌++◌, length, take, drop, Bool, true, false, not, nat_eq, nat_lt, ◌||◌, refl, sym, ap, ◌∙◌, subst, arith}
+use Rattle.std.proofs.Common.{◌≡◌, ℕ, ◌+◌, ◌-◌, ◌*◌, ◌/◌, ◌%◌, ◌<◌, ◌≤◌, ◌^◌, List, [], ◌∷◌, ◌++◌, length, take, Bool, true, false, not, nat_eq, nat_lt, ◌||◌, refl, sym, ap, ◌∙◌, subst, arith}
 use Rattle.std.specs.Prelude.{slice_range}
 use Rattle.std.proofs.Math.Seq.{take-length}
 use Rattle.std.proofs.lemmas.Bool.Decides.{nat_tests}
@@ -9,8 +9,8 @@ use Rattle.word_base.specs.declared.rule.Refusal.{Refusal}
 use Rattle.word_base.specs.Rules.{broken}
 use Rattle.word_base.specs.Words.{word_from, bytes_of}
 use Rattle.dxbc_container.specs.Layout.{dxbc, shex_tag, total_of, count_of, place_of, offset_of, tag_of, size_of, container_of}
-use Rattle.dxbc_container.specs.Refusals.{word_refusals, header_refusals, head_refusals, is_outside, outside_from, IsContainer, tagged_from, tagged, tag_refusals, sole_refusals, is_wrong_size, size_refusals, shex_refusals}
-use Rattle.dxbc_container.specs.Chunks.{IsChunk, IsSole, IsShex}
+use Rattle.dxbc_container.specs.Refusals.{word_refusals, header_refusals, head_refusals, is_outside, outside_from, IsContainer, tagged, tag_refusals, sole_refusals, is_wrong_size, size_refusals, shex_refusals}
+use Rattle.dxbc_container.specs.Chunks.{IsShex}
 use Rattle.dxbc_container.proofs.Firsts.{both_none, outside_none}
 use Rattle.dxbc_container.proofs.Soles.{only}
 
@@ -18,17 +18,17 @@ unbroken : (b : Bool) (r : Rule) (p : ℕ) (rest : List Refusal) → b ≡ false
 unbroken true r p rest e h = cc
 unbroken false r p rest e h = h
 
-unbroken_last : (b : Bool) (r : Rule) (p : ℕ) → b ≡ false → broken b r p ≡ []
+pub unbroken_last : (b : Bool) (r : Rule) (p : ℕ) → b ≡ false → broken b r p ≡ []
 unbroken_last true r p e = cc
 unbroken_last false r p e = refl
 
-at_least : (a b : ℕ) → b ≤ a → nat_lt a b ≡ false
+pub at_least : (a b : ℕ) → b ≤ a → nat_lt a b ≡ false
 at_least a b h = grind (arith, nat_tests)
 
-same_word : (a b : ℕ) → a ≡ b → not (nat_eq a b) ≡ false
+pub same_word : (a b : ℕ) → a ≡ b → not (nat_eq a b) ≡ false
 same_word a b h = grind (arith, nat_tests)
 
-neither : (a b : Bool) → a ≡ false → b ≡ false → (a || b) ≡ false
+pub neither : (a b : Bool) → a ≡ false → b ≡ false → (a || b) ≡ false
 neither true b h k = cc
 neither false b h k = k
 
@@ -48,17 +48,17 @@ header_holds bytes n h =
     both_none (broken (nat_lt (length bytes) 32) C1 0) (word_refusals bytes)
     (unbroken_last _ C1 0 (at_least (length bytes) 32 (omega (arith, h.size))))
     (unbroken (not (nat_eq (word_from bytes 0) dxbc)) C2 0 _ (same_word (word_from bytes 0) dxbc h.letters)
-      (unbroken (not (nat_eq (word_from bytes 20) 1)) C3 20 _ (same_word (word_from bytes 20) 1 h.version)
-        (unbroken (nat_lt (total_of bytes) 32 || nat_lt (length bytes) (total_of bytes)) C4 24 _
-          (neither _ _ (at_least (total_of bytes) 32 (omega (arith, h.total))) (at_least (length bytes) (total_of bytes) (omega (arith, h.total, h.size))))
-          (unbroken_last (nat_lt (total_of bytes) (32 + 4 * count_of bytes)) C5 28
-            (at_least (total_of bytes) (32 + 4 * count_of bytes) (omega (arith, h.total, h.count)))))))
+    (unbroken (not (nat_eq (word_from bytes 20) 1)) C3 20 _ (same_word (word_from bytes 20) 1 h.version)
+    (unbroken (nat_lt (total_of bytes) 32 || nat_lt (length bytes) (total_of bytes)) C4 24 _
+    (neither _ _ (at_least (total_of bytes) 32 (omega (arith, h.total))) (at_least (length bytes) (total_of bytes) (omega (arith, h.total, h.size))))
+    (unbroken_last (nat_lt (total_of bytes) (32 + 4 * count_of bytes)) C5 28
+    (at_least (total_of bytes) (32 + 4 * count_of bytes) (omega (arith, h.total, h.count)))))))
 
 only_inside : (bytes : List ℕ) (n : ℕ) → HasOne bytes n → (k : ℕ) → k ≡ 0 → is_outside bytes k ≡ false
 only_inside bytes n h k e =
     subst (λ j. is_outside bytes j ≡ false) (sym e) (neither _ _
-      (at_least (total_of bytes) (offset_of bytes 0 + 8) (omega (arith, h.total, h.offset)))
-      (at_least (total_of bytes) (offset_of bytes 0 + 8 + size_of bytes 0) (omega (arith, h.total, h.offset, h.data_size))))
+    (at_least (total_of bytes) (offset_of bytes 0 + 8) (omega (arith, h.total, h.offset)))
+    (at_least (total_of bytes) (offset_of bytes 0 + 8 + size_of bytes 0) (omega (arith, h.total, h.offset, h.data_size))))
 
 head_holds : (bytes : List ℕ) (n : ℕ) → HasOne bytes n → IsContainer bytes
 head_holds bytes n h =

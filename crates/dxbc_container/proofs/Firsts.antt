@@ -1,5 +1,5 @@
 -- The first of the rules that a container breaks.
-use Rattle.std.proofs.Common.{◌≡◌, ℕ, zero, suc, ◌+◌, ◌*◌, ◌<◌, ◌≤◌, ◌⊎◌, inl, inr, ⊎_elim, List, [], ◌∷◌, ◌++◌, Option, Some, None, Bool, true, false, refl, sym, ap, ◌∙◌, subst, arith}
+use Rattle.std.proofs.Common.{◌≡◌, ℕ, zero, suc, ◌+◌, ◌<◌, ◌≤◌, ◌⊎◌, ⊎_elim, List, [], ◌∷◌, ◌++◌, Some, None, Bool, true, false, refl, sym, ap, ◌∙◌, subst, arith}
 use Rattle.std.proofs.lemmas.Bool.Decides.{nat_tests}
 use Rattle.word_base.specs.declared.rule.Rule.TheVariants.{C6}
 use Rattle.word_base.specs.declared.rule.Refusal.{Refusal}
@@ -66,9 +66,9 @@ pub outside_found : (bytes : List ℕ) (j i n : ℕ) → i ≤ j → j < i + n �
 outside_found bytes j i zero a b p t = absurd (omega arith)
 outside_found bytes j i (suc n) a b p t = ⊎_elim
     (λ (e : i ≡ j). subst (λ k. first (outside_from bytes i (suc n)) ≡ Some (refusal C6 (place_of k))) e
-      (outside_here bytes i n (is_outside bytes i) (subst (λ k. is_outside bytes k ≡ true) (sym e) t)))
+    (outside_here bytes i n (is_outside bytes i) (subst (λ k. is_outside bytes k ≡ true) (sym e) t)))
     (λ (l : i < j). ap first (holds (is_outside bytes i) (place_of i) (outside_from bytes (suc i) n) (p i l))
-      ∙ outside_found bytes j (suc i) n (omega arith) (omega arith) p t)
+    ∙ outside_found bytes j (suc i) n (omega arith) (omega arith) p t)
     (here_or_later i j a)
 
 pub outside_none : (bytes : List ℕ) (i n : ℕ) → ((k : ℕ) → k < i + n → is_outside bytes k ≡ false) → outside_from bytes i n ≡ []

@@ -1,15 +1,15 @@
 -- What a container's rules say of its table and of its chunks.
-use Rattle.std.proofs.Common.{◌≡◌, ℕ, zero, suc, ◌+◌, ◌*◌, ◌<◌, ◌≤◌, List, [], ◌∷◌, ◌++◌, length, Bool, true, false, refl, sym, ap, ◌∙◌, subst, arith, not, nat_eq, nat_lt, ◌||◌, length-take, length-drop}
+use Rattle.std.proofs.Common.{◌≡◌, ℕ, ◌+◌, ◌*◌, ◌<◌, ◌≤◌, List, [], ◌∷◌, ◌++◌, length, Bool, true, false, refl, arith, not, nat_eq, nat_lt, ◌||◌, length-take, length-drop}
 use Rattle.std.specs.Prelude.{slice_range}
 use Rattle.std.proofs.lemmas.Bool.Decides.{nat_tests}
 use Rattle.word_base.specs.declared.rule.Rule.{Rule}
 use Rattle.word_base.specs.declared.rule.Rule.TheVariants.{C1, C2, C3, C4, C5}
 use Rattle.word_base.specs.declared.rule.Refusal.{Refusal}
-use Rattle.word_base.specs.Rules.{refusal, broken}
+use Rattle.word_base.specs.Rules.{broken}
 use Rattle.word_base.specs.Words.{word_from}
-use Rattle.dxbc_container.specs.Layout.{dxbc, total_of, count_of, place_of, offset_of, size_of}
-use Rattle.dxbc_container.specs.Refusals.{after, word_refusals, header_refusals, head_refusals, is_outside, outside_from, IsContainer}
-use Rattle.dxbc_container.specs.Chunks.{HasTable, IsInside, content_of}
+use Rattle.dxbc_container.specs.Layout.{dxbc, total_of, count_of, offset_of, size_of}
+use Rattle.dxbc_container.specs.Refusals.{word_refusals, header_refusals, outside_from, IsContainer}
+use Rattle.dxbc_container.specs.Chunks.{HasTable, IsInside}
 use Rattle.dxbc_container.proofs.Firsts.{earlier_none, later_none, inside_each}
 
 second_none : (xs ys : List Refusal) → xs ++ ys ≡ [] → ys ≡ []
@@ -38,8 +38,8 @@ neither_right false b h = h
 pub table_fits : (bytes : List ℕ) → IsContainer bytes → HasTable bytes
 table_fits bytes h =
     let words : word_refusals bytes ≡ [] =
-      later_none (broken (nat_lt (length bytes) 32) C1 0) (word_refusals bytes)
-      (earlier_none _ (outside_from bytes 0 (count_of bytes)) h) in
+    later_none (broken (nat_lt (length bytes) 32) C1 0) (word_refusals bytes)
+    (earlier_none _ (outside_from bytes 0 (count_of bytes)) h) in
     let from_c3 = second_none (broken (not (nat_eq (word_from bytes 0) dxbc)) C2 0) _ words in
     let from_c4 = second_none (broken (not (nat_eq (word_from bytes 20) 1)) C3 20) _ from_c3 in
     let size = kept (nat_lt (total_of bytes) 32 || nat_lt (length bytes) (total_of bytes)) C4 24 (first_none _ _ from_c4) in

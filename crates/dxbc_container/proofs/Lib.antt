@@ -3,3 +3,4 @@ pub mod Inside
 pub mod Tags
 pub mod Soles
 pub mod Built
+pub mod Exactly

@@ -1,14 +1,13 @@
 -- The one chunk of a tag.
-use Rattle.std.proofs.Common.{◌≡◌, ℕ, ◌+◌, ◌<◌, List, [], ◌∷◌, length, refl, sym, ap, ◌∙◌, subst, arith, inl, Some, None}
-use Rattle.std.specs.Prelude.{slice_range}
+use Rattle.std.proofs.Common.{◌≡◌, ℕ, List, [], ◌∷◌, length, refl, sym, ap, ◌∙◌, arith, Some}
 use Rattle.word_base.specs.declared.rule.Refusal.{Refusal}
 use Rattle.word_base.specs.Rules.{first}
 use Rattle.dxbc_container.specs.declared.part.Tagged.{Tagged}
-use Rattle.dxbc_container.specs.Layout.{shex_tag, count_of, offset_of, tag_of, size_of}
-use Rattle.dxbc_container.specs.Refusals.{IsContainer, tagged, tag_refusals, size_refusals, sole_refusals, shex_refusals}
-use Rattle.dxbc_container.specs.Chunks.{IsChunk, IsSole, IsShex, IsTagged, IsSolePart, content_of}
-use Rattle.dxbc_container.proofs.Firsts.{after_some, both_none, no_first}
-use Rattle.dxbc_container.proofs.Tags.{Has, listed, only_one, sole_named}
+use Rattle.dxbc_container.specs.Layout.{shex_tag, count_of, offset_of, size_of}
+use Rattle.dxbc_container.specs.Refusals.{IsContainer, tagged, size_refusals, sole_refusals, shex_refusals}
+use Rattle.dxbc_container.specs.Chunks.{IsChunk, IsShex, IsTagged, IsSolePart}
+use Rattle.dxbc_container.proofs.Firsts.{after_some}
+use Rattle.dxbc_container.proofs.Tags.{listed, only_one, sole_named}
 
 -- no other chunk has the tag
 pub only : (bytes : List ℕ) (tag i : ℕ) → tagged bytes tag ≡ i ∷ [] → (j at : ℕ) (other : List ℕ) → IsChunk bytes j at tag other → j ≡ i

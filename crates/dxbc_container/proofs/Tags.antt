@@ -61,9 +61,9 @@ pub listed : (bytes : List ℕ) (tag k i n : ℕ) → i ≤ k → k < i + n → 
 listed bytes tag k i zero a b e = absurd (omega arith)
 listed bytes tag k i (suc n) a b e = ⊎_elim
     (λ (f : i ≡ k). has_here (nat_eq (tag_of bytes i) tag) i k (tagged_from bytes tag (suc i) n)
-      (is_equal (tag_of bytes i) tag (ap (tag_of bytes) f ∙ e)) f)
+    (is_equal (tag_of bytes i) tag (ap (tag_of bytes) f ∙ e)) f)
     (λ (l : i < k). has_step (nat_eq (tag_of bytes i) tag) i k (tagged_from bytes tag (suc i) n)
-      (listed bytes tag k (suc i) n (omega arith) (omega arith) e))
+    (listed bytes tag k (suc i) n (omega arith) (omega arith) e))
     (here_or_later i k a)
 
 -- and a chunk in that list has the tag, and is one of the chunks

@@ -1,5 +1,5 @@
 -- The chunks of a container.
-use Rattle.std.specs.Prelude.{◌≡◌, ℕ, ◌+◌, ◌*◌, ◌<◌, ◌≤◌, List, length, slice_range}
+use Rattle.std.specs.Prelude.{◌≡◌, ℕ, ◌+◌, ◌<◌, ◌≤◌, List, length, slice_range}
 use Rattle.dxbc_container.specs.declared.part.Slice.{Slice}
 use Rattle.dxbc_container.specs.declared.part.Tagged.{Tagged}
 use Rattle.dxbc_container.specs.Layout.{shex_tag, total_of, count_of, place_of, offset_of, tag_of, size_of}

@@ -6,6 +6,8 @@
 
 mod part;
 mod reader;
+#[cfg(test)]
+mod tests;
 mod writer;
 
 pub use part::{Slice, Tagged};

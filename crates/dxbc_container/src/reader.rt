@@ -3,7 +3,7 @@ ghost use Rattle.word_base.specs.Words.{word_from};
 ghost use Rattle.word_base.specs.Rules.{first};
 ghost use Rattle.dxbc_container.specs.Layout.{shex_tag, total_of, count_of, place_of, offset_of, tag_of, size_of};
 ghost use Rattle.dxbc_container.specs.Refusals.{refusal_of, header_refusals, head_refusals, is_outside, IsContainer, tagged, sole_refusals, shex_refusals};
-ghost use Rattle.dxbc_container.specs.Chunks.{HasTable, IsInside, IsTagged, IsSolePart, IsShex, content_of};
+ghost use Rattle.dxbc_container.specs.Chunks.{HasTable, IsInside, IsTagged, IsSole, IsSolePart, IsShex, content_of};
 ghost use Rattle.dxbc_container.specs.Searches.{IsNext};
 
 use crate::part::{Slice, Tagged};
@@ -118,9 +118,12 @@ pub fn container_laws()
     ensures table { (bytes : List ℕ) → IsContainer bytes → HasTable bytes }
     ensures inside { (bytes : List ℕ) (i : ℕ) → IsContainer bytes → i < count_of bytes → IsInside bytes i }
     ensures part { (bytes : List ℕ) (s n : ℕ) → s + n ≤ length bytes → length (slice_range bytes s (s + n)) ≡ n }
+    ensures sole_holds { (bytes : List ℕ) (tag start : ℕ) (held : List ℕ) → IsSole bytes tag start held → sole_refusals bytes tag ≡ [] }
+    ensures sole_found { (bytes : List ℕ) (tag : ℕ) → sole_refusals bytes tag ≡ [] → (start : ℕ) × ((held : List ℕ) × IsSole bytes tag start held) }
+    ensures shex_holds { (bytes held : List ℕ) → IsShex bytes held → 8 ≤ length held → length held % 4 ≡ 0 → shex_refusals bytes ≡ [] }
+    ensures shex_found { (bytes : List ℕ) → shex_refusals bytes ≡ [] → (held : List ℕ) × (IsShex bytes held × (8 ≤ length held) × (length held % 4 ≡ 0)) }
     ensures single { (bytes a b : List ℕ) → IsShex bytes a → IsShex bytes b → a ≡ b }
-{
-}
+{}
 
 /// Reads the header and the offsets of a container, and gives the number of chunks.
 ///
@@ -148,6 +151,9 @@ pub fn chunks(bytes: &[u8]) -> Result<u32, Refusal>
 }
 
 /// The tag and the data of the chunk with the number `i`, counted from 0.
+///
+/// `chunks` answers how many there are. The part counts bytes from byte 0 of the container. (DXBC
+/// container layout.)
 pub fn chunk(bytes: &[u8], i: u32) -> Tagged
     requires small { length bytes.now ≤ 16777216 }
     requires sound { IsContainer bytes.now }
@@ -207,7 +213,9 @@ fn sole_number(bytes: &[u8], tag: u32) -> Result<u32, Refusal>
     Ok(number)
 }
 
-/// The data of the one chunk of the tag, a little-endian word of four bytes.
+/// The data of the one chunk of the tag, whose four bytes are given as a little-endian word.
+///
+/// The part counts bytes from byte 0 of the container. (DXBC container layout.)
 ///
 /// # Errors
 ///
@@ -222,6 +230,9 @@ pub fn sole(bytes: &[u8], tag: u32) -> Result<Slice, Refusal>
 }
 
 /// The data of the one chunk `SHEX`: the words of a program, at least two, and whole.
+///
+/// The part counts bytes from byte 0 of the container. (DXBC container layout;
+/// d3d11TokenizedProgramFormat.hpp, the version and the length of a program.)
 ///
 /// # Errors
 ///

@@ -31,7 +31,7 @@ fn push_words(out: &mut Vec<u8>, words: &[u32]) -> Result<(), NoMemory>
 
 /// Makes a container whose one chunk `SHEX` holds the tokens, with a checksum of zeros.
 ///
-/// (DXBC container layout.)
+/// It has 44 bytes and four for each token. (DXBC container layout.)
 ///
 /// # Errors
 ///

@@ -2,3 +2,4 @@ pub mod Numbers
 pub mod Texts
 pub mod Steps
 pub mod Small
+pub mod Typed

@@ -1,6 +1,6 @@
 -- A module and its text, a list of words (SPIR-V specification, unified1, section 2.3, Physical Layout).
-use Rattle.std.specs.Prelude.{◌≡◌, ℕ, ◌+◌, ◌*◌, ◌<◌, List, [], ◌∷◌, ◌++◌, length, flat_map, Some, IsTrue}
-use Rattle.std.specs.List.{All}
+use Rattle.std.specs.Prelude.{◌≡◌, ℕ, ◌+◌, ◌*◌, nat_lt, Bool, false, ◌&&◌, List, [], ◌∷◌, ◌++◌, length, flat_map, Option, Some, None, IsTrue}
+use Rattle.std.specs.List.{list_all}
 use Rattle.spirv_words.specs.Operations.{Op, op_of}
 use Rattle.spirv_words.specs.Layouts.{layout_of, fits}
 
@@ -29,14 +29,18 @@ words_of_code code = flat_map words_of_instr code
 abbrev pub header_of : Module → List ℕ
 header_of m = 0x07230203 ∷ m.version ∷ 0 ∷ m.bound ∷ 0 ∷ []
 
--- An instruction of the table with operands that fit, of at most 65,535 words.
-pub record IsInstr (i : Instr) : Type 0 where
-  pub op : Op
-  pub is_named : op_of i.op ≡ Some op
-  pub has_layout : IsTrue (fits (layout_of op) i.operands)
-  pub is_short : length i.operands < 65535
+-- An instruction is one of the table, with operands that fit, and has at most 65,535 words.
+abbrev pub fits_op : Option Op → List ℕ → Bool
+fits_op None operands = false
+fits_op (Some op) operands = fits (layout_of op) operands
+
+abbrev pub is_instr : Instr → Bool
+is_instr i = fits_op (op_of i.op) i.operands && nat_lt (length i.operands) 65535
+
+abbrev pub IsInstr : Instr → Type 0
+IsInstr i = IsTrue (is_instr i)
 
 -- These words are the module's text: its header, and then its instructions one after the other.
 pub record IsTextOf (m : Module) (words : List ℕ) : Type 0 where
   pub is_text : words ≡ header_of m ++ words_of_code m.code
-  pub instructions : All IsInstr m.code
+  pub instructions : IsTrue (list_all is_instr m.code)

@@ -11,5 +11,5 @@
 mod laws;
 mod writer;
 
-pub use laws::{lane_laws, number_laws, smallest_laws, text_laws};
+pub use laws::{form_laws, lane_laws, number_laws, smallest_laws, text_laws};
 pub use writer::put;

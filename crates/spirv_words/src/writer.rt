@@ -1,4 +1,4 @@
-ghost use Rattle.std.specs.Prelude.{◌≡◌, ◌++◌, OnOk, OnErr};
+ghost use Rattle.std.specs.Prelude.{◌≡◌, ◌+◌, ◌≤◌, ◌++◌, OnOk, OnErr, length, vec_len, vec_capacity};
 ghost use Rattle.spirv_words.specs.Text.{IsInstr, instr, words_of_instr};
 
 use word_base::NoMemory;
@@ -10,15 +10,30 @@ use word_base::NoMemory;
 ///
 /// # Errors
 ///
-/// `NoMemory` where `out` cannot grow; then it is as before.
-#[tactic(auto, using(crate::proofs::Numbers::joined))]
+/// `NoMemory` where `out` has no room for the instruction and cannot grow; then it is as before.
+#[tactic(auto, using(crate::proofs::Numbers::joined, crate::proofs::Numbers::number_is_short, crate::proofs::Numbers::operands_are_short))]
 pub fn put(out: &mut Vec<u32>, op: u32, operands: &[u32]) -> Result<(), NoMemory>
     requires instruction { IsInstr (instr op operands.now) }
     ensures ok { OnOk result (out.new.items ≡ out.old.items ++ words_of_instr (instr op operands.now)) }
     ensures err { OnErr result (out.new.items ≡ out.old.items) }
+    ensures full { OnErr result (vec_capacity out.old ≤ vec_len out.old + length operands.now) }
 {
     let words = operands.len() + 1;
     out.reserve(words).map_err(|_| NoMemory)?;
     out.push(65536 * words as u32 + op).map_err(|_| NoMemory)?;
     out.extend_from_slice(operands).map_err(|_| NoMemory)
+}
+
+#[cfg(test)]
+mod tests {
+    use super::*;
+    use std::test::Fail;
+
+    #[test]
+    fn writes_a_sum_behind_the_words(rt: HostRuntime) -> Result<(), Fail> {
+        let mut out = Vec::from_slice(rt.alloc(), &[7u32])?;
+        put(&mut out, 128, &[5, 8, 6, 7])?;
+        assert_eq!(rt; out.as_slice(), [7u32, 0x0005_0080, 5, 8, 6, 7].as_slice());
+        Ok(())
+    }
 }

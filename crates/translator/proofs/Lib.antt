@@ -1,4 +1,3 @@
-pub mod Instructions
 pub mod Ends
 pub mod Follows
 pub mod Threads

@@ -1,7 +1,7 @@
 -- What a translation answers.
 use Rattle.std.proofs.Common.{◌≡◌, ℕ, zero, suc, ◌+◌, ◌<◌, ◌≤◌, ◌⊎◌, inl, inr, ⊎_elim, List, [], ◌∷◌, ◌++◌, length, Bool, true, false, Option, Some, None, refl, sym, ap, ◌∙◌, subst, arith}
 use Rattle.std.specs.Prelude.{IsTrue, Contains, nat_eq, nat_lt, not, ◌&&◌, filter, map, cond}
-use Rattle.std.specs.List.{list_all, filter_map, All}
+use Rattle.std.specs.List.{list_all, filter_map}
 use Rattle.word_base.specs.Words.{words_of}
 use Rattle.word_base.specs.declared.rule.Refusal.{Refusal}
 use Rattle.word_base.specs.declared.rule.Halt.{Halt}
@@ -18,7 +18,7 @@ use Rattle.tpf_program.specs.Declarations.{Threads, threads_in}
 use Rattle.tpf_program.specs.Extents.{shared_extent, words_declared}
 use Rattle.tpf_program.specs.Program.{Shader}
 use Rattle.tpf_program.specs.StraightLine.{is_built, is_built_code, returns, ReturnsAtEnd, IsStraightLine, IsOutside}
-use Rattle.spirv_words.specs.Text.{IsInstr, Module, header_of, words_of_code}
+use Rattle.spirv_words.specs.Text.{is_instr, Module, header_of, words_of_code}
 use Rattle.spirv_words.specs.Sections.{sized, is_version}
 use Rattle.spirv_words.specs.Variables.{Wanted, nothing_wanted}
 use Rattle.spirv_words.specs.Form.{Form}
@@ -98,7 +98,7 @@ alone is h e =
 -- The module means the program.
 pub meant : (bytes content words : List ℕ) (p : Shader) (t : Threads)
     → ((version x y z : ℕ) → IsTrue (is_version version) → Form version (sized x y z) nothing_wanted (smallest version x y z))
-    → ((version x y z : ℕ) → All IsInstr (smallest version x y z).code)
+    → ((version x y z : ℕ) → IsTrue (list_all is_instr (smallest version x y z).code))
     → IsShex bytes content → IsStraightLine (words_of content) p → t ≡ threads_in p.declarations
     → words ≡ header_of (smallest 0x00010300 t.x t.y t.z) ++ words_of_code (smallest 0x00010300 t.x t.y t.z).code
     → Means bytes [] 0x00010300 words

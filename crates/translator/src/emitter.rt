@@ -35,7 +35,6 @@ const HEADER: [u32; 5] = [0x07230203, 0x00010300, 0, 5, 0];
 /// The words of the module that returns at once, with its thread group's size.
 ///
 /// (SPIR-V specification, section 2.4, Logical Layout of a Module.)
-#[tactic(auto, using(crate::proofs::Instructions::checked))]
 pub(crate) fn emit(alloc: Global, threads: ThreadGroup) -> Result<Vec<u32>, NoMemory>
     ensures { IfOk result (λ w. w.items ≡ header_of (smallest 0x00010300 threads.x threads.y threads.z) ++ words_of_code (smallest 0x00010300 threads.x threads.y threads.z).code) }
 {

@@ -33,22 +33,22 @@ keeps_least : (a b : Refusal) (rest : List Refusal) → IsFirst (Contains rest) 
 keeps_least a b rest h true e = record {
   is_broken = at_back a b rest h.is_broken;
   is_least = λ q m. ⊎_elim
-    (λ (s : a ≡ q). subst (λ x. comes_before x b ≡ false) s (not_both (key_of a) (key_of b) e))
-    (λ m. h.is_least q m) (front_or_back a q rest m.0 m.1 m.2);
+      (λ (s : a ≡ q). subst (λ x. comes_before x b ≡ false) s (not_both (key_of a) (key_of b) e))
+      (λ m. h.is_least q m) (front_or_back a q rest m.0 m.1 m.2);
 }
 keeps_least a b rest h false e = record {
   is_broken = at_front a rest;
   is_least = λ q m. ⊎_elim
-    (λ (s : a ≡ q). subst (λ x. comes_before x a ≡ false) s (single a))
-    (λ m. not_below (key_of a) (key_of b) (key_of q) e (h.is_least q m)) (front_or_back a q rest m.0 m.1 m.2);
+      (λ (s : a ≡ q). subst (λ x. comes_before x a ≡ false) s (single a))
+      (λ m. not_below (key_of a) (key_of b) (key_of q) e (h.is_least q m)) (front_or_back a q rest m.0 m.1 m.2);
 }
 
 alone : (a : Refusal) → IsFirst (Contains (a ∷ [])) a
 alone a = record {
   is_broken = at_front a [];
   is_least = λ q m. ⊎_elim
-    (λ (s : a ≡ q). subst (λ x. comes_before x a ≡ false) s (single a))
-    (λ m. absurd (omega (arith, m.1))) (front_or_back a q [] m.0 m.1 m.2);
+      (λ (s : a ≡ q). subst (λ x. comes_before x a ≡ false) s (single a))
+      (λ m. absurd (omega (arith, m.1))) (front_or_back a q [] m.0 m.1 m.2);
 }
 
 pub none : (qs : List Refusal) → first qs ≡ None → qs ≡ []

@@ -66,9 +66,16 @@ pub struct Classes {
 #[derive(Clone, Copy, Debug, PartialEq, Eq)]
 pub enum Event {
     /// Reads a word.
-    Load { room: Room, word: u32 },
+    Load {
+        room: Room,
+        word: u32,
+    },
     /// Writes a word.
-    Store { room: Room, word: u32, value: u32 },
+    Store {
+        room: Room,
+        word: u32,
+        value: u32,
+    },
     /// Reads a word and writes it anew, in one step. For every kind but `CompareExchange`, `b` is 0.
     Atomic {
         room: Room,
@@ -78,9 +85,15 @@ pub enum Event {
         b: u32,
     },
     /// Orders what this lane does before and after it.
-    Fence { scope: Scope, classes: Classes },
+    Fence {
+        scope: Scope,
+        classes: Classes,
+    },
     /// A fence at which the lanes of a group wait for one another.
-    Barrier { scope: Scope, classes: Classes },
+    Barrier {
+        scope: Scope,
+        classes: Classes,
+    },
 }
 
 /// The numbers of a lane.

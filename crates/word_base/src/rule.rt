@@ -162,5 +162,4 @@ pub fn first_laws()
     ensures none { (qs : List Refusal) → first qs ≡ None → qs ≡ [] }
     ensures some { (qs : List Refusal) (r : Refusal) → first qs ≡ Some r → IsFirst (Contains qs) r }
     ensures single { (r : Refusal) → comes_before r r ≡ false }
-{
-}
+{}

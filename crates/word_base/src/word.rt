@@ -28,5 +28,4 @@ pub fn word_laws()
     ensures bytes_length { (words : List ℕ) → length (bytes_of words) ≡ 4 * length words }
     ensures words_length { (bytes : List ℕ) → length (words_of bytes) ≡ length bytes / 4 }
     ensures word { (bytes : List ℕ) (i : ℕ) → 4 * i + 4 ≤ length bytes → slice_index (words_of bytes) i ≡ word_at bytes i }
-{
-}
+{}

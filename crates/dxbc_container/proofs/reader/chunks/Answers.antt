@@ -1,4 +1,4 @@
-use Rattle.std.proofs.Common.{◌∙◌, sym, ap, subst, arith, rules}
+use Rattle.std.proofs.Common.{sym, ap, arith, rules}
 use Rattle.word_base.specs.Rules.{first}
 use Rattle.dxbc_container.proofs.Firsts.{all_inside, one_outside}
 use Rattle.dxbc_container.proofs.reader.chunks.Goals as goal

@@ -16,5 +16,5 @@ returns-clause-found c =
 pub returns-clause-data : goal.returns-clause-data
 returns-clause-data c =
     let h : IsSolePart c.args.bytes.now shex_tag c.chunk.result.part =
-      sole_part c.args.bytes.now shex_tag c.in_ok-number.number c.chunk.result c.in_ok-number.ensures.sound c.in_ok-number.ensures.number c.chunk.ensures in
+    sole_part c.args.bytes.now shex_tag c.in_ok-number.number c.chunk.result c.in_ok-number.ensures.sound c.in_ok-number.ensures.number c.chunk.ensures in
     record { start = c.chunk.result.part.start; sole = h.sole }
