@@ -14,18 +14,17 @@ use Rattle.compiler_cli.specs.declared.failure.Failure.TheVariants as failure
 use Rattle.compiler_cli.specs.declared.failure.Status.{Status}
 use Rattle.compiler_cli.specs.declared.failure.Status.TheVariants as status
 use Rattle.compiler_cli.specs.Job.{Job, job_of, is_stream}
+use Rattle.compiler_cli.specs.Streams.{NothingLeft}
 use Rattle.compiler_cli.specs.Texts.{refusal_line, usage_line, fault_line, memory_line}
 
--- what is told of a desk and of two streams, with their counts of faults
-pub record Seen : Type 0 where
+-- what is told of a desk and of the stream of the output, with its count of faults
+pub record Outside : Type 0 where
   pub desk : Told
   pub out : Option (List ℕ)
-  pub out_faults : ℕ
-  pub err : Option (List ℕ)
-  pub err_faults : ℕ
+  pub faults : ℕ
 
-abbrev pub seen : Told → Option (List ℕ) → ℕ → Option (List ℕ) → ℕ → Seen
-seen desk out out_faults err err_faults = record { desk = desk; out = out; out_faults = out_faults; err = err; err_faults = err_faults }
+abbrev pub outside : Told → Option (List ℕ) → ℕ → Outside
+outside desk out faults = record { desk = desk; out = out; faults = faults }
 
 -- the desk tells its files, and these are the bytes of that one
 abbrev pub IsFile : Option (List File) → List ℕ → List ℕ → Type 0
@@ -46,11 +45,6 @@ pub record IsUntranslated (bytes : List ℕ) (r : Refusal) : Type 0 where
 abbrev pub BreaksIn : List ℕ → Refusal → Type 0
 BreaksIn bytes r = IsTooLarge bytes r ⊎ IsUntranslated bytes r
 
--- where it is told, nothing is left of the input
-abbrev pub NothingLeft : Option (List ℕ) → Type 0
-NothingLeft None = Unit {0}
-NothingLeft (Some bytes) = bytes ≡ []
-
 -- The words mean what the input asks for, and no rule is broken: where the input is told.
 pub record IsMeant (files : Option (List File)) (name words : List ℕ) : Type 0 where
   pub sound : (bytes : List ℕ) → IsFile files name bytes → IsSound (BreaksIn bytes)
@@ -60,16 +54,20 @@ pub record IsMeant (files : Option (List File)) (name words : List ℕ) : Type 0
 abbrev pub IsFirstIn : Option (List File) → List ℕ → Refusal → Type 0
 IsFirstIn files name r = (bytes : List ℕ) → IsFile files name bytes → IsFirst (BreaksIn bytes) r
 
--- What making the words of a module leaves: of the desk nothing but the input is touched.
+-- What making the words of a module leaves, and why it fails.
 pub record Makes (old new : Told) (name words : List ℕ) : Type 0 where
   pub there : IsMissing old.files name → ⊥
   pub meant : IsMeant old.files name words
   pub left : NothingLeft new.left
 
-abbrev pub FailsIn : Told → Told → List ℕ → Failure → Type 0
-FailsIn old new name (failure.Refused r) = (IsMissing old.files name → ⊥) × IsFirstIn old.files name r
-FailsIn old new name failure.Fault = Rose old.faults new.faults ⊎ IsMissing old.files name
-FailsIn old new name failure.NoMemory = IsMissing old.files name → ⊥
+pub record IsRefusedBy (old : Told) (name : List ℕ) (r : Refusal) : Type 0 where
+  pub there : IsMissing old.files name → ⊥
+  pub first : IsFirstIn old.files name r
+
+abbrev pub FailsBy : Told → Told → List ℕ → Failure → Type 0
+FailsBy old new name (failure.Refused r) = IsRefusedBy old name r
+FailsBy old new name failure.Fault = Rose old.faults new.faults ⊎ IsMissing old.files name
+FailsBy old new name failure.NoMemory = Unit {0}
 
 -- Nothing was written to an output, and none was begun.
 pub record Untouched (old new : Told) (out out' : Option (List ℕ)) : Type 0 where
@@ -102,56 +100,86 @@ abbrev pub DeliversPart : List ℕ → Told → Told → Option (List ℕ) → O
 DeliversPart name old new out out' bytes =
     Untouched old new out out' ⊎ ((n : ℕ) × (n ≤ length bytes) × Delivers name old new out out' (take n bytes))
 
--- A line was written whole, unless a fault was counted, and then a front of it.
-abbrev pub Reports : Seen → Seen → List ℕ → Type 0
-Reports old new line = Gained old.err new.err line ⊎ (GainedPart old.err new.err line × Rose old.err_faults new.err_faults)
+-- What writing the bytes of an output leaves.
+abbrev pub DeliversBy : {E : Type 0} → List ℕ → Outside → Outside → List ℕ → Result Unit E → Type 0
+DeliversBy name old new bytes (Ok u) = Delivers name old.desk new.desk old.out new.out bytes × (new.desk.left ≡ old.desk.left)
+DeliversBy name old new bytes (Err e) =
+    DeliversPart name old.desk new.desk old.out new.out bytes × (Rose old.desk.faults new.desk.faults ⊎ Rose old.faults new.faults)
 
--- The answers of a run. Ok: the bytes of a module that means the input were written to the output, and to nothing else.
-pub record Translated (words : List (List ℕ)) (old new : Seen) : Type 0 where
-  pub job : Job
-  pub asked : job_of words ≡ Some job
+-- How a job ends. The bytes of a module that means the input were written to the output, and to nothing else.
+pub record Succeeds (job : Job) (old new : Outside) : Type 0 where
   pub target : List ℕ
   pub there : IsMissing old.desk.files job.input → ⊥
   pub meant : IsMeant old.desk.files job.input target
   pub left : NothingLeft new.desk.left
   pub written : Delivers job.output old.desk new.desk old.out new.out (bytes_of target)
-  pub silent : new.err ≡ old.err
 
--- Refused: by the first broken rule of the input.
-pub record Refused (words : List (List ℕ)) (old new : Seen) : Type 0 where
-  pub job : Job
-  pub asked : job_of words ≡ Some job
-  pub broken : Refusal
+-- This is the first broken rule of the input, and nothing was written.
+pub record Refuses (job : Job) (old new : Outside) (r : Refusal) : Type 0 where
   pub there : IsMissing old.desk.files job.input → ⊥
-  pub first : IsFirstIn old.desk.files job.input broken
+  pub first : IsFirstIn old.desk.files job.input r
   pub untouched : Untouched old.desk new.desk old.out new.out
-  pub reported : Reports old new (refusal_line broken)
 
--- Usage: the words ask for nothing.
-pub record Misused (words : List (List ℕ)) (old new : Seen) : Type 0 where
-  pub none : job_of words ≡ None
+-- The input could not be read, and nothing was written.
+pub record FaultsReading (job : Job) (old new : Outside) : Type 0 where
+  pub cause : Rose old.desk.faults new.desk.faults ⊎ IsMissing old.desk.files job.input
   pub untouched : Untouched old.desk new.desk old.out new.out
-  pub reported : Reports old new usage_line
 
--- Fault: a count rose, or the input is not there. What was written is a front of the output.
-pub record Faulted (words : List (List ℕ)) (old new : Seen) : Type 0 where
+-- The output could not be written whole.
+pub record FaultsWriting (job : Job) (old new : Outside) : Type 0 where
+  pub target : List ℕ
+  pub there : IsMissing old.desk.files job.input → ⊥
+  pub meant : IsMeant old.desk.files job.input target
+  pub cause : Rose old.desk.faults new.desk.faults ⊎ Rose old.faults new.faults
+  pub written : DeliversPart job.output old.desk new.desk old.out new.out (bytes_of target)
+
+abbrev pub Ends : Job → Outside → Outside → Result Unit Failure → Type 0
+Ends job old new (Ok u) = Succeeds job old new
+Ends job old new (Err (failure.Refused r)) = Refuses job old new r
+Ends job old new (Err failure.Fault) = FaultsReading job old new ⊎ FaultsWriting job old new
+Ends job old new (Err failure.NoMemory) = Untouched old.desk new.desk old.out new.out
+
+-- What is told of the stream of errors, with its count of faults.
+pub record Stream : Type 0 where
+  pub written : Option (List ℕ)
+  pub faults : ℕ
+
+abbrev pub stream : Option (List ℕ) → ℕ → Stream
+stream written faults = record { written = written; faults = faults }
+
+-- a line was written whole, unless a fault was counted, and then a front of it
+abbrev pub Reports : Stream → Stream → List ℕ → Type 0
+Reports old new line = Gained old.written new.written line ⊎ (GainedPart old.written new.written line × Rose old.faults new.faults)
+
+-- the status and the line of a failure
+abbrev pub status_of : Failure → Status
+status_of (failure.Refused r) = status.Refused
+status_of failure.Fault = status.Fault
+status_of failure.NoMemory = status.NoMemory
+
+abbrev pub line_of : Failure → List ℕ
+line_of (failure.Refused r) = refusal_line r
+line_of failure.Fault = fault_line
+line_of failure.NoMemory = memory_line
+
+-- The answers of a run to words, each with what it left. A job was asked for, and ended so.
+pub record Answered (words : List (List ℕ)) (P : Job → Type 0) : Type 0 where
   pub job : Job
   pub asked : job_of words ≡ Some job
-  pub cause : Rose old.desk.faults new.desk.faults ⊎ (Rose old.out_faults new.out_faults ⊎ IsMissing old.desk.files job.input)
-  pub written : Untouched old.desk new.desk old.out new.out
-      ⊎ ((target : List ℕ) × IsMeant old.desk.files job.input target × DeliversPart job.output old.desk new.desk old.out new.out (bytes_of target))
-  pub reported : Reports old new fault_line
+  pub ended : P job
 
--- Want of memory: nothing was written.
-pub record Starved (words : List (List ℕ)) (old new : Seen) : Type 0 where
-  pub job : Job
-  pub asked : job_of words ≡ Some job
-  pub untouched : Untouched old.desk new.desk old.out new.out
-  pub reported : Reports old new memory_line
+abbrev pub RefusedBy : Outside → Outside → Stream → Stream → Job → Type 0
+RefusedBy old new err err' job = (r : Refusal) × Refuses job old new r × Reports err err' (refusal_line r)
 
-abbrev pub Answers : List (List ℕ) → Seen → Seen → Status → Type 0
-Answers words old new status.Ok = Translated words old new
-Answers words old new status.Refused = Refused words old new
-Answers words old new status.Usage = Misused words old new
-Answers words old new status.Fault = Faulted words old new
-Answers words old new status.NoMemory = Starved words old new
+abbrev pub Answers : List (List ℕ) → Outside → Outside → Stream → Stream → Status → Type 0
+Answers words old new err err' status.Ok = Answered words (λ job. Succeeds job old new) × (err'.written ≡ err.written)
+Answers words old new err err' status.Refused = Answered words (RefusedBy old new err err')
+Answers words old new err err' status.Usage = (job_of words ≡ None) × Untouched old.desk new.desk old.out new.out × Reports err err' usage_line
+Answers words old new err err' status.Fault =
+    Answered words (λ job. FaultsReading job old new ⊎ FaultsWriting job old new) × Reports err err' fault_line
+Answers words old new err err' status.NoMemory =
+    Answered words (λ job. Untouched old.desk new.desk old.out new.out) × Reports err err' memory_line
+
+-- Where a rule of the input is broken, the run is refused, unless memory or the desk failed.
+abbrev pub IsRefused : Outside → Outside → Status → Type 0
+IsRefused old new result = (result ≡ status.Refused) ⊎ ((result ≡ status.NoMemory) ⊎ Rose old.desk.faults new.desk.faults)

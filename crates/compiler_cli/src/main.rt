@@ -4,5 +4,8 @@
 mod command;
 mod failure;
 mod printed;
+mod report;
+mod run;
+mod streams;
 
 fn main() {}

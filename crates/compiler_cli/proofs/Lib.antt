@@ -1,0 +1,4 @@
+pub mod Arrived
+pub mod Fronts
+pub mod Parts
+pub mod Runs

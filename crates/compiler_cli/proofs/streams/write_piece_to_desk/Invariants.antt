@@ -1,0 +1,15 @@
+use Rattle.std.proofs.Common.{◌≡◌, length, take, ◌-◌, ◌^◌, ◌<◌, ◌≤◌}
+use Rattle.compiler_cli.specs.Streams.{LastGained}
+use Rattle.compiler_cli.proofs.streams.write_piece_to_desk.Given as goal
+
+abbrev pub invariant-loop-done : goal.invariant-loop-done
+invariant-loop-done g l = record {
+  within : l.done ≤ length l.piece;
+  gained : LastGained (g.D.Desk.told l.fn.desk) (g.D.Desk.told l.desk) (take l.done l.piece);
+  later : (g.D.Desk.told l.fn.desk).faults ≤ (g.D.Desk.told l.desk).faults;
+  small : (g.D.Desk.told l.fn.desk).faults < 2 ^ 64 → (g.D.Desk.told l.desk).faults < 2 ^ 64;
+  nothing : l.done ≡ 0 → l.desk ≡ l.fn.desk;
+}
+
+abbrev pub decreases-loop-done : goal.decreases-loop-done
+decreases-loop-done g l = length l.piece - l.done

@@ -1,0 +1,184 @@
+ghost use Rattle.std.specs.Prelude.{◌≡◌, ℕ, ◌≤◌, ◌<◌, ◌^◌, ◌⊎◌, List, [], Err, ◌*◌, IsTrue, IfOk, IfErr, length, take};
+ghost use Rattle.outside.specs.Causes.{HasCause, Rose};
+ghost use Rattle.outside.specs.Told.{KeepsOutputs, IsMissing};
+ghost use Rattle.word_base.specs.Words.{bytes_of};
+ghost use Rattle.compiler_cli.specs.Streams.{WritesBytes, WritesLast, CameWhole, FileCame, NothingLeft, StoppedBy, most_read};
+
+use byteorder::{ByteOrder, LittleEndian};
+use outside::{Desk, Failed, Sink, outside_laws};
+use std::alloc::Global;
+
+/// The size in bytes of the pieces that are read and offered to an output.
+const PIECE: usize = 4096;
+
+/// The number of words in a piece.
+const PIECE_WORDS: usize = 1024;
+
+/// How many bytes of a file are read at most: one more than the longest file that is taken.
+const MOST_READ: usize = 16_777_217;
+
+/// Why a file was not read.
+#[derive(Clone, Copy, Debug, PartialEq, Eq)]
+pub(crate) enum Stop {
+    /// A call to the desk failed.
+    Fault,
+    /// Memory was wanted and could not be had.
+    NoMemory,
+}
+
+/// Reads the bytes that are left of the file that was begun, at most `MOST_READ` of them.
+fn read_left<D: Desk>(alloc: Global, desk: &mut D) -> Result<Vec<u8>, Stop>
+    ensures whole { IfOk result (λ b. CameWhole (D.told desk.old).left b.items (D.told desk.new).left) }
+    ensures limit { IfOk result (λ b. length b.items ≤ most_read) }
+    ensures failed { IfErr result (λ e. StoppedBy e (Rose (D.told desk.old).faults (D.told desk.new).faults)) }
+    ensures kept { KeepsOutputs (D.told desk.old) (D.told desk.new) }
+    ensures later { (D.told desk.old).faults ≤ (D.told desk.new).faults }
+    ensures within { (D.told desk.old).faults < 2 ^ 64 → (D.told desk.new).faults < 2 ^ 64 }
+{
+    let mut bytes = Vec::new(alloc);
+    let mut piece = [0; PIECE];
+    while bytes.len() < MOST_READ {
+        let want = (MOST_READ - bytes.len()).min(PIECE);
+        let Ok(count) = desk.read(&mut piece[..want]) else {
+            return Err(Stop::Fault);
+        };
+        if count == 0 {
+            return Ok(bytes);
+        }
+        if bytes.extend_from_slice(&piece[..count]).is_err() {
+            return Err(Stop::NoMemory);
+        }
+    }
+    Ok(bytes)
+}
+
+/// Reads a file from its front, at most `MOST_READ` bytes of it. Stops with `Fault` where a call
+/// fails, as it does where the desk tells its files and none has the name.
+pub(crate) fn read_file<D: Desk>(alloc: Global, desk: &mut D, name: &str) -> Result<Vec<u8>, Stop>
+    ensures whole { IfOk result (λ b. FileCame (D.told desk.old).files name.now b.items (D.told desk.new).left) }
+    ensures limit { IfOk result (λ b. length b.items ≤ most_read) }
+    ensures ended { IfOk result (λ b. length b.items < most_read → NothingLeft (D.told desk.new).left) }
+    ensures missing { IsMissing (D.told desk.old).files name.now → result ≡ Err Stop.Fault }
+    ensures failed { IfErr result (λ e. StoppedBy e (Rose (D.told desk.old).faults (D.told desk.new).faults ⊎ IsMissing (D.told desk.old).files name.now)) }
+    ensures kept { KeepsOutputs (D.told desk.old) (D.told desk.new) }
+    ensures later { (D.told desk.old).faults ≤ (D.told desk.new).faults }
+    ensures within { (D.told desk.old).faults < 2 ^ 64 → (D.told desk.new).faults < 2 ^ 64 }
+{
+    let Ok(()) = desk.begin_read(name) else {
+        return Err(Stop::Fault);
+    };
+    match read_left(alloc, desk) {
+        Ok(bytes) => Ok(bytes),
+        Err(stop) => Err(stop),
+    }
+}
+
+/// Writes a piece, and its rest where it is taken in part.
+fn write_piece<K: Sink>(sink: &mut K, piece: &[u8]) -> Result<(), Failed>
+    ensures bytes { WritesBytes (K.written sink.old) piece.now result (K.written sink.new) }
+    ensures cause { HasCause (K.faults sink.old) (K.faults sink.new) result }
+    ensures nothing { piece.now ≡ [] → sink.new ≡ sink.old }
+{
+    outside_laws();
+    let mut done = 0;
+    while done < piece.len() {
+        done += sink.write(&piece[done..])?;
+    }
+    Ok(())
+}
+
+/// Writes bytes in pieces, of which only the last may be shorter. No bytes make no call.
+pub(crate) fn write_bytes<K: Sink>(sink: &mut K, bytes: &[u8]) -> Result<(), Failed>
+    ensures bytes { WritesBytes (K.written sink.old) bytes.now result (K.written sink.new) }
+    ensures cause { HasCause (K.faults sink.old) (K.faults sink.new) result }
+    ensures nothing { bytes.now ≡ [] → sink.new ≡ sink.old }
+{
+    outside_laws();
+    let mut done = 0;
+    while done < bytes.len() {
+        let end = (done + PIECE).min(bytes.len());
+        write_piece(sink, &bytes[done..end])?;
+        done = end;
+    }
+    Ok(())
+}
+
+/// Puts the bytes of the words to the front of the buffer, the lowest byte of each first.
+fn fill(words: &[u32], buffer: &mut [u8; PIECE])
+    requires { length words.now ≤ PIECE_WORDS }
+    ensures { take (4 * length words.now) buffer.new ≡ bytes_of words.now }
+{
+    LittleEndian::write_u32_into(words, &mut buffer[..4 * words.len()]);
+}
+
+/// Writes the bytes of words, the lowest byte of each first, in pieces of which only the last may be
+/// shorter. No words make no call.
+pub(crate) fn write_words<K: Sink>(sink: &mut K, words: &[u32]) -> Result<(), Failed>
+    ensures bytes { WritesBytes (K.written sink.old) (bytes_of words.now) result (K.written sink.new) }
+    ensures cause { HasCause (K.faults sink.old) (K.faults sink.new) result }
+    ensures nothing { words.now ≡ [] → sink.new ≡ sink.old }
+{
+    outside_laws();
+    let mut buffer = [0; PIECE];
+    let mut done = 0;
+    while done < words.len() {
+        let end = (done + PIECE_WORDS).min(words.len());
+        fill(&words[done..end], &mut buffer);
+        write_piece(sink, &buffer[..4 * (end - done)])?;
+        done = end;
+    }
+    Ok(())
+}
+
+/// Writes a piece to the last output, and its rest where it is taken in part.
+fn write_piece_to_desk<D: Desk>(desk: &mut D, piece: &[u8]) -> Result<(), Failed>
+    requires begun { IsTrue (D.told desk.old).begun }
+    ensures bytes { WritesLast (D.told desk.old) piece.now result (D.told desk.new) }
+    ensures cause { HasCause (D.told desk.old).faults (D.told desk.new).faults result }
+    ensures nothing { piece.now ≡ [] → desk.new ≡ desk.old }
+{
+    outside_laws();
+    let mut done = 0;
+    while done < piece.len() {
+        done += desk.write(&piece[done..])?;
+    }
+    Ok(())
+}
+
+/// Writes bytes to the last output of a desk in pieces, of which only the last may be shorter. No
+/// bytes make no call.
+pub(crate) fn write_bytes_to_desk<D: Desk>(desk: &mut D, bytes: &[u8]) -> Result<(), Failed>
+    requires begun { IsTrue (D.told desk.old).begun }
+    ensures bytes { WritesLast (D.told desk.old) bytes.now result (D.told desk.new) }
+    ensures cause { HasCause (D.told desk.old).faults (D.told desk.new).faults result }
+    ensures nothing { bytes.now ≡ [] → desk.new ≡ desk.old }
+{
+    outside_laws();
+    let mut done = 0;
+    while done < bytes.len() {
+        let end = (done + PIECE).min(bytes.len());
+        write_piece_to_desk(desk, &bytes[done..end])?;
+        done = end;
+    }
+    Ok(())
+}
+
+/// Writes the bytes of words to the last output of a desk, the lowest byte of each first, in pieces of
+/// which only the last may be shorter. No words make no call.
+pub(crate) fn write_words_to_desk<D: Desk>(desk: &mut D, words: &[u32]) -> Result<(), Failed>
+    requires begun { IsTrue (D.told desk.old).begun }
+    ensures bytes { WritesLast (D.told desk.old) (bytes_of words.now) result (D.told desk.new) }
+    ensures cause { HasCause (D.told desk.old).faults (D.told desk.new).faults result }
+    ensures nothing { words.now ≡ [] → desk.new ≡ desk.old }
+{
+    outside_laws();
+    let mut buffer = [0; PIECE];
+    let mut done = 0;
+    while done < words.len() {
+        let end = (done + PIECE_WORDS).min(words.len());
+        fill(&words[done..end], &mut buffer);
+        write_piece_to_desk(desk, &buffer[..4 * (end - done)])?;
+        done = end;
+    }
+    Ok(())
+}
