@@ -1,7 +1,6 @@
-ghost use Rattle.std.specs.Prelude.{◌≡◌, ◌↔◌, ◌⊎◌, ℕ, List, Ok, Err, Some, None, IfOk, IfErr};
+ghost use Rattle.std.specs.Prelude.{◌≡◌, ◌↔◌, ◌≤◌, ℕ, List, Ok, Err, Some, None, IfOk, IfErr};
 ghost use Rattle.word_base.specs.Rules.{IsFirst};
 ghost use Rattle.word_base.specs.Words.{bytes_of};
-ghost use Rattle.outside.specs.Causes.{Rose};
 ghost use Rattle.outside.specs.Told.{KeepsOutputs, IsMissing};
 ghost use Rattle.compiler_cli.specs.Job.{Job, job_of};
 ghost use Rattle.compiler_cli.specs.Command.{job_in, texts_of};
@@ -64,6 +63,7 @@ fn make<D: Desk>(alloc: Global, desk: &mut D, name: &str) -> Result<Vec<u32>, Fa
     ensures made { IfOk result (λ words. Makes (D.told desk.old) (D.told desk.new) name.now words.items) }
     ensures failed { IfErr result (FailsBy (D.told desk.old) (D.told desk.new) name.now) }
     ensures kept { KeepsOutputs (D.told desk.old) (D.told desk.new) }
+    ensures later { (D.told desk.old).faults ≤ (D.told desk.new).faults }
     ensures missing { IsMissing (D.told desk.old).files name.now → result ≡ Err Failure.Fault }
 {
     let bytes = match read_file(alloc, desk, name) {

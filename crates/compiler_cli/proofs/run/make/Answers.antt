@@ -26,5 +26,5 @@ returns-in-Err-Refused-clause-failed g c = record {
   there = λ m. let k = c.read_file.ensures.missing m in let i = c.in-Ok.is in cc;
   first =
       refused _ _ c.in-Ok.bytes.items _ c.in-Err-Refused.refusal c.in-Ok.ensures.whole (omega arith)
-      (subst (λ (x : List ℕ). IsFirst (IsBroken x) c.in-Err-Refused.refusal) c.deref.ensures.value ?);
+      (subst (λ (x : List ℕ). IsFirst (IsBroken x) c.in-Err-Refused.refusal) c.deref.ensures.value (rw c.in-Err-Refused.field-0-is at c.in-Err-Refused.ensures.halted));
 }
