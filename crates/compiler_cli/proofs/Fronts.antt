@@ -69,7 +69,7 @@ pub parts_part : (old mid new : Option (List ℕ)) (parts : List (Bor (List ℕ)
     → GainedPart mid new (get_or parts i d).now → GainedPart old new (joined parts)
 parts_part old mid new parts i d lt g h =
     let s : joined parts ≡ joined (take i parts) ++ ((get_or parts i d).now ++ joined (drop (suc i) parts)) =
-        joined_split parts i ∙ ap (λ l. joined (take i parts) ++ joined l) (drop-cons parts i d lt) in
+    joined_split parts i ∙ ap (λ l. joined (take i parts) ++ joined l) (drop-cons parts i d lt) in
     subst (GainedPart old new) (sym s)
     (part_behind old mid new (joined (take i parts)) ((get_or parts i d).now ++ joined (drop (suc i) parts)) g
     (part_before mid new (get_or parts i d).now (joined (drop (suc i) parts)) h))

@@ -37,8 +37,8 @@ pub too_large : (files : Option (List File)) (name bytes : List ℕ) (left : Opt
 too_large files name bytes left c lt file f = record {
   is_broken = inl (record { size = came_long files name bytes file left c f lt; rule = refl });
   is_least = λ q b.
-    ⊎_elim (λ (t : IsTooLarge file q). subst (λ r. comes_before r (refusal M1 16777216) ≡ false) (sym t.rule) refl)
-    (λ (u : IsUntranslated file q). absurd (let s = u.size in let l = came_long files name bytes file left c f lt in omega arith)) b;
+      ⊎_elim (λ (t : IsTooLarge file q). subst (λ r. comes_before r (refusal M1 16777216) ≡ false) (sym t.rule) refl)
+      (λ (u : IsUntranslated file q). absurd (let s = u.size in let l = came_long files name bytes file left c f lt in omega arith)) b;
 }
 
 -- a module of the file
@@ -46,9 +46,9 @@ pub meant : (files : Option (List File)) (name bytes words : List ℕ) (left : O
     → Means bytes [] 0x00010300 words → IsSound (IsBroken bytes) → IsMeant files name words
 meant files name bytes words left c le m s = record {
   sound = λ file f q b.
-    let e = came_short files name bytes file left c f le in
-    ⊎_elim (λ (t : IsTooLarge file q). let z = t.size in let k = ap length e in omega arith)
-    (λ (u : IsUntranslated file q). s q (subst (λ x. IsBroken x q) (sym e) u.rule)) b;
+      let e = came_short files name bytes file left c f le in
+      ⊎_elim (λ (t : IsTooLarge file q). let z = t.size in let k = ap length e in omega arith)
+      (λ (u : IsUntranslated file q). s q (subst (λ x. IsBroken x q) (sym e) u.rule)) b;
   means = λ file f. subst (λ x. Means x [] 0x00010300 words) (came_short files name bytes file left c f le) m;
 }
 
@@ -62,8 +62,8 @@ refused files name bytes left r c le h file f =
     record {
       is_broken = inr (record { size = size; rule = k.is_broken });
       is_least = λ q b.
-        ⊎_elim (λ (t : IsTooLarge file q). absurd (let z = t.size in omega arith))
-        (λ (u : IsUntranslated file q). k.is_least q u.rule) b;
+          ⊎_elim (λ (t : IsTooLarge file q). absurd (let z = t.size in omega arith))
+          (λ (u : IsUntranslated file q). k.is_least q u.rule) b;
     }
 
 -- What is written after the input was read is written after all.

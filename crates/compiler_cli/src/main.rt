@@ -12,12 +12,11 @@ mod report;
 mod run;
 mod streams;
 
-pub use failure::Status;
-pub use run::run;
-
 use crate::failure::Failure;
 use crate::report::{report, report_usage};
+pub use failure::Status;
 use outside::{FileDesk, StdSink, Words};
+pub use run::run;
 use std::alloc::AllocError;
 use std::io::ErrorKind;
 use std::process::ExitCode;
@@ -69,3 +68,6 @@ fn main(rt: HostRuntime) -> ExitCode {
         Err(_) => code(Status::NoMemory),
     }
 }
+
+#[cfg(test)]
+mod tests;

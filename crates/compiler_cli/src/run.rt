@@ -24,7 +24,13 @@ const MOST_BYTES: usize = 16_777_216;
 ///
 /// The output is made whole before its first byte is written. Before `Refused`, `Usage` and
 /// `NoMemory` nothing is written and no output is begun.
-pub fn run<D: Desk, O: Sink, E: Sink>(alloc: Global, words: &Words, desk: &mut D, out: &mut O, err: &mut E) -> Status
+pub fn run<D: Desk, O: Sink, E: Sink>(
+    alloc: Global,
+    words: &Words,
+    desk: &mut D,
+    out: &mut O,
+    err: &mut E,
+) -> Status
     ensures usage { (result ≡ Status.Usage) ↔ (job_of (texts_of words.now) ≡ None) }
     ensures answer { Answers (texts_of words.now)
         (seen (D.told desk.old) (O.written out.old) (O.faults out.old)) (seen (D.told desk.new) (O.written out.new) (O.faults out.new))
@@ -43,7 +49,12 @@ pub fn run<D: Desk, O: Sink, E: Sink>(alloc: Global, words: &Words, desk: &mut D
 }
 
 /// Translates the input of a command to its output.
-fn perform<D: Desk, O: Sink>(alloc: Global, desk: &mut D, out: &mut O, command: Command) -> Result<(), Failure>
+fn perform<D: Desk, O: Sink>(
+    alloc: Global,
+    desk: &mut D,
+    out: &mut O,
+    command: Command,
+) -> Result<(), Failure>
     ensures ends { Ends (job_in command.entry)
         (seen (D.told desk.old) (O.written out.old) (O.faults out.old)) (seen (D.told desk.new) (O.written out.new) (O.faults out.new)) result }
     ensures missing { IsMissing (D.told desk.old).files command.entry.input.now → result ≡ Err Failure.Fault }
@@ -85,7 +96,12 @@ fn make<D: Desk>(alloc: Global, desk: &mut D, name: &str) -> Result<Vec<u32>, Fa
 }
 
 /// Writes the bytes of words to the stream, or to a new output of the desk.
-fn deliver<D: Desk, O: Sink>(desk: &mut D, out: &mut O, name: &str, words: &[u32]) -> Result<(), Failed>
+fn deliver<D: Desk, O: Sink>(
+    desk: &mut D,
+    out: &mut O,
+    name: &str,
+    words: &[u32],
+) -> Result<(), Failed>
     ensures { DeliversBy name.now
         (seen (D.told desk.old) (O.written out.old) (O.faults out.old)) (seen (D.told desk.new) (O.written out.new) (O.faults out.new)) (bytes_of words.now) result }
 {

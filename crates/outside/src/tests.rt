@@ -46,21 +46,28 @@ fn calls_made<D: Desk>(desk: &mut D) -> u64 {
     4
 }
 
+/// Begins a file and adds its new bytes, then reads once.
+fn read_replaced(desk: &mut MemoryDesk, piece: &mut [u8]) -> Option<usize> {
+    desk.begin_read("a").ok()?;
+    desk.add("a", &[9]).ok()?;
+    desk.read(piece).ok()
+}
+
+/// Whether the output `i` has that name and these bytes.
+fn is_output(desk: &MemoryDesk, i: u32, name: &str, bytes: &[u8]) -> bool {
+    i < desk.outputs() && desk.output_name(i) == name && desk.output(i) == bytes
+}
+
 #[test]
 fn memory_desk_reads(rt: HostRuntime) -> Result<(), Fail> {
     let mut desk = MemoryDesk::make(rt.alloc(), 0, 0, Vec::new(rt.alloc()))?;
     desk.add("a", &[1, 2, 3])?;
     let mut into = [0; 4];
-    assert_eq!(rt; read_twice(&mut desk, "a", &mut into), Ok((2, 1)));
+    assert_eq!(rt; read_twice(&mut desk, "b", &mut into), Err(Failed));
+    assert_eq!(rt; read_replaced(&mut desk, &mut into), Some(3));
     assert_eq!(rt; into, [1, 2, 3, 0]);
-    desk.begin_read("a")?;
-    desk.add("a", &[9])?;
-    let mut piece = [0; 3];
-    assert_eq!(rt; desk.read(&mut piece), Ok(3));
-    assert_eq!(rt; piece, [1, 2, 3]);
     assert_eq!(rt; read_twice(&mut desk, "a", &mut into), Ok((1, 0)));
-    assert_eq!(rt; into[0], 9);
-    assert_eq!(rt; desk.begin_read("b"), Err(Failed));
+    assert_eq!(rt; into, [9, 2, 3, 0]);
     Ok(())
 }
 
@@ -69,12 +76,10 @@ fn memory_desk_writes(rt: HostRuntime) -> Result<(), Fail> {
     let mut desk = MemoryDesk::make(rt.alloc(), 2, 8, Vec::new(rt.alloc()))?;
     assert_eq!(rt; write_twice(&mut desk, "x", &[1, 2], &[3]), Ok((2, 1)));
     assert_eq!(rt; write_twice(&mut desk, "yz", &[4, 5], &[6]), Err(Failed));
-    assert_eq!(rt; desk.begin_write(""), Err(Failed));
+    assert_eq!(rt; write_twice(&mut desk, "", &[], &[]), Err(Failed));
+    assert!(rt; is_output(&desk, 0, "x", &[1, 2, 3]));
+    assert!(rt; is_output(&desk, 1, "yz", &[4, 5]));
     assert_eq!(rt; desk.outputs(), 2);
-    assert_eq!(rt; desk.output_name(0), "x");
-    assert_eq!(rt; desk.output(0), [1, 2, 3].as_slice());
-    assert_eq!(rt; desk.output_name(1), "yz");
-    assert_eq!(rt; desk.output(1), [4, 5].as_slice());
     Ok(())
 }
 
@@ -121,9 +126,14 @@ fn quiet_ones_never_fail(rt: HostRuntime) -> Result<(), Fail> {
 fn files_and_streams(rt: HostRuntime) -> Result<(), Fail> {
     let mut desk = FileDesk::make(rt);
     let mut into = [0; 4];
-    assert_eq!(rt; desk.read(&mut into), Ok(0));
-    assert_eq!(rt; desk.begin_read("missing/input"), Err(Failed));
-    assert_eq!(rt; desk.begin_write("missing/output"), Err(Failed));
+    assert_eq!(rt;
+        read_twice(&mut desk, "missing/input", &mut into),
+        Err(Failed)
+    );
+    assert_eq!(rt;
+        write_twice(&mut desk, "missing/output", b"", b""),
+        Err(Failed)
+    );
     assert_eq!(rt;
         write_twice(&mut desk, "outside-test-output", b"ab", b"c"),
         Ok((2, 1))

@@ -42,9 +42,15 @@ holds ws r = subst Holds (sym r.whole) (record { version = refl; count = refl; d
 
 pub returns_at_once : (ws : List ℕ) → length ws ≡ 7 → Holds ws → ReturnsAtOnce ws
 returns_at_once ws n h = record {
-  group = slice_index ws 2; x = slice_index ws 3; y = slice_index ws 4; z = slice_index ws 5; last = slice_index ws 6;
+  group = slice_index ws 2;
+  x = slice_index ws 3;
+  y = slice_index ws 4;
+  z = slice_index ws 5;
+  last = slice_index ws 6;
   whole = seven ws n ∙ rw (h.version, h.count) refl;
-  declares = h.declares; threads = h.threads; ends = h.ends;
+  declares = h.declares;
+  threads = h.threads;
+  ends = h.ends;
 }
 
 -- Lists that join to nothing.

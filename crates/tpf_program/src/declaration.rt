@@ -26,9 +26,15 @@ pub enum Declaration {
     /// `dcl_globalFlags`: bits 23 to 11 of the token, each at its own place.
     Flags(u32),
     /// `dcl_constantbuffer`; the size counts vectors of four words.
-    Constants { slot: u32, size: u32 },
+    Constants {
+        slot: u32,
+        size: u32,
+    },
     /// `dcl_resource_raw`, `dcl_resource_structured`.
-    Resource { slot: u32, view: ViewKind },
+    Resource {
+        slot: u32,
+        view: ViewKind,
+    },
     /// `dcl_uav_raw`, `dcl_uav_structured`.
     Uav {
         slot: u32,
@@ -37,9 +43,15 @@ pub enum Declaration {
         ordered: bool,
     },
     /// `dcl_tgsm_raw`, `dcl_tgsm_structured`.
-    Shared { slot: u32, kind: SharedKind },
+    Shared {
+        slot: u32,
+        kind: SharedKind,
+    },
     /// `dcl_input`.
-    Input { kind: Kind, select: Select },
+    Input {
+        kind: Kind,
+        select: Select,
+    },
     /// `dcl_temps`: the number of registers.
     Temps(u32),
     /// `dcl_indexableTemp`; the count is of elements.
@@ -49,9 +61,15 @@ pub enum Declaration {
         components: u32,
     },
     /// `dcl_thread_group`: the threads of a group.
-    Group { x: u32, y: u32, z: u32 },
+    Group {
+        x: u32,
+        y: u32,
+        z: u32,
+    },
     /// `dcl_immediateConstantBuffer`.
-    ImmediateConstants { vectors: u32 },
+    ImmediateConstants {
+        vectors: u32,
+    },
 }
 
 /// A declaration with its place.

@@ -15,3 +15,6 @@ pub use declaration::{Declaration, Declared, SharedKind, ViewKind};
 pub use instruction::{Argument, Instruction, Kind, Relative, Select};
 pub use program::Program;
 pub use reader::read;
+
+#[cfg(test)]
+mod tests;

@@ -21,16 +21,16 @@ impl Model for Program {
     ghost Value = { Shader };
 
     ghost view = { λ p. record {
-        words = p.words;
-        declarations = p.declarations.items;
-        constants = p.constants.items;
-        instructions = p.instructions.items;
+      words = p.words;
+      declarations = p.declarations.items;
+      constants = p.constants.items;
+      instructions = p.instructions.items;
     } };
 
     ghost invariant = { λ p. record {
-        declarations : vec_len p.declarations ≤ 65536;
-        constants : vec_len p.constants ≤ 65536;
-        instructions : vec_len p.instructions ≤ 65536;
+      declarations : vec_len p.declarations ≤ 65536;
+      constants : vec_len p.constants ≤ 65536;
+      instructions : vec_len p.instructions ≤ 65536;
     } };
 }
 

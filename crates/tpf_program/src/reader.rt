@@ -74,10 +74,7 @@ fn is_token(word: u32, code: u32, length: u32) -> bool
 fn is_thread_group(x: u32, y: u32, z: u32) -> bool
     ensures { result ≡ is_group x y z }
 {
-    (1..=1024).contains(&x)
-        && (1..=1024).contains(&y)
-        && (1..=64).contains(&z)
-        && x * y * z <= 1024
+    (1..=1024).contains(&x) && (1..=1024).contains(&y) && (1..=64).contains(&z) && x * y * z <= 1024
 }
 
 /// The instruction of an opcode token that names no operand.

@@ -137,8 +137,8 @@ refused_container bytes r some e =
     record {
       is_broken = inl f.is_broken;
       is_least = λ q b.
-        ⊎_elim (λ c. f.is_least q c)
-        (λ (s : SpellsNone bytes q). absurd (not_in_none (shex_refusals bytes) r s.sound f.is_broken)) b;
+          ⊎_elim (λ c. f.is_least q c)
+          (λ (s : SpellsNone bytes q). absurd (not_in_none (shex_refusals bytes) r s.sound f.is_broken)) b;
     }
 
 pub refused_program : (bytes content : List ℕ) (h : Halt) → ((bytes a b : List ℕ) → IsShex bytes a → IsShex bytes b → a ≡ b) → shex_refusals bytes ≡ [] → IsShex bytes content
@@ -146,7 +146,7 @@ pub refused_program : (bytes content : List ℕ) (h : Halt) → ((bytes a b : Li
 refused_program bytes content (Refused r) single none chunk f = record {
   is_broken = inr (record { sound = none; content = content; chunk = chunk; outside = f.is_broken });
   is_least = λ q b.
-    ⊎_elim (λ c. absurd (not_in_none (shex_refusals bytes) q none c))
-    (λ (s : SpellsNone bytes q). f.is_least q (subst (λ c. IsOutside (words_of c) q) (single bytes s.content content s.chunk chunk) s.outside)) b;
+      ⊎_elim (λ c. absurd (not_in_none (shex_refusals bytes) q none c))
+      (λ (s : SpellsNone bytes q). f.is_least q (subst (λ c. IsOutside (words_of c) q) (single bytes s.content content s.chunk chunk) s.outside)) b;
 }
 refused_program bytes content NoMemory single none chunk f = f

@@ -42,7 +42,11 @@ pub(crate) fn emit(alloc: Global, threads: ThreadGroup) -> Result<Vec<u32>, NoMe
     put(&mut out, CAPABILITY, &[1])?;
     put(&mut out, MEMORY_MODEL, &[0, 1])?;
     put(&mut out, ENTRY_POINT, &[5, 1, 0x6E69616D, 0])?;
-    put(&mut out, EXECUTION_MODE, &[1, 17, threads.x, threads.y, threads.z])?;
+    put(
+        &mut out,
+        EXECUTION_MODE,
+        &[1, 17, threads.x, threads.y, threads.z],
+    )?;
     put(&mut out, TYPE_VOID, &[2])?;
     put(&mut out, TYPE_FUNCTION, &[3, 2])?;
     put(&mut out, FUNCTION, &[2, 1, 0, 3])?;
@@ -53,12 +57,21 @@ pub(crate) fn emit(alloc: Global, threads: ThreadGroup) -> Result<Vec<u32>, NoMe
 }
 
 const CAPABILITY: u32 = 17;
+
 const MEMORY_MODEL: u32 = 14;
+
 const ENTRY_POINT: u32 = 15;
+
 const EXECUTION_MODE: u32 = 16;
+
 const TYPE_VOID: u32 = 19;
+
 const TYPE_FUNCTION: u32 = 33;
+
 const FUNCTION: u32 = 54;
+
 const FUNCTION_END: u32 = 56;
+
 const LABEL: u32 = 248;
+
 const RETURN: u32 = 253;

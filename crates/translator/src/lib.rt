@@ -10,3 +10,6 @@ mod emitter;
 mod translation;
 
 pub use translation::translate;
+
+#[cfg(test)]
+mod tests;

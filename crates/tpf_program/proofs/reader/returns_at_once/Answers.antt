@@ -14,6 +14,6 @@ returns c =
         ends = subst (λ (n : ℕ). IsToken n 62 1) c.word_at-last.ensures (c.is_token-else-not-is_token.ensures.0 (search rules));
       }),
       λ r.
-        let k = reads_back c.args.bytes.now w r in
-        c.is_thread_group.ensures ∙ group_of _ _ _ _ _ _ (sym c.word_at-2.ensures) (sym c.word_at-3.ensures) (sym c.word_at-4.ensures) k.threads,
+          let k = reads_back c.args.bytes.now w r in
+          c.is_thread_group.ensures ∙ group_of _ _ _ _ _ _ (sym c.word_at-2.ensures) (sym c.word_at-3.ensures) (sym c.word_at-4.ensures) k.threads,
     )
