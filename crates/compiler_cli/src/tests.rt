@@ -48,13 +48,21 @@ fn sink(alloc: Global, call: u64) -> Result<MemorySink, NoMemory> {
     MemorySink::make(alloc, 1000, calls)
 }
 
-/// What a run left.
+/// What a run left: the bytes of the stream, of the one named output, and of the stream of errors.
 #[derive(Drop)]
 struct Left {
     status: Status,
-    files: MemoryDesk,
-    written: MemorySink,
-    told: MemorySink,
+    stream: Vec<u8>,
+    named: Vec<u8>,
+    told: Vec<u8>,
+}
+
+/// The bytes of the first output, or none.
+fn first_output(alloc: Global, files: &MemoryDesk) -> Result<Vec<u8>, AllocError> {
+    if files.outputs() == 0 {
+        return Ok(Vec::new(alloc));
+    }
+    Vec::from_slice(alloc, files.output(0))
 }
 
 /// Runs over one file, with one failing call of the desk, the output and the stream of errors.
@@ -68,57 +76,123 @@ fn run_with(
     let words = words(alloc, texts).map_err(|_| NoMemory)?;
     let mut files = desk(alloc, name, bytes, calls[0])?;
     let mut written = sink(alloc, calls[1])?;
-    let mut told = sink(alloc, calls[2])?;
-    let status = run(alloc, &words, &mut files, &mut written, &mut told);
+    let mut errors = sink(alloc, calls[2])?;
+    let status = run(alloc, &words, &mut files, &mut written, &mut errors);
+    let stream = Vec::from_slice(alloc, written.bytes()).map_err(|_| NoMemory)?;
+    let told = Vec::from_slice(alloc, errors.bytes()).map_err(|_| NoMemory)?;
+    let named = first_output(alloc, &files).map_err(|_| NoMemory)?;
     Ok(Left {
         status,
-        files,
-        written,
+        stream,
+        named,
         told,
     })
 }
 
-#[test]
-fn translates_standard_input(rt: HostRuntime) -> Result<(), Fail> {
-    let plain = run_with(rt.alloc(), &[], "-", &SMALLEST, [0, 0, 0])?;
-    assert_eq!(rt; plain.status, Status::Ok);
-    assert_eq!(rt; plain.written.bytes(), MODULE.as_slice());
-    assert_eq!(rt; plain.told.bytes().len(), 0);
-    assert_eq!(rt; plain.files.outputs(), 0);
-    let tailed = run_with(rt.alloc(), &["-"], "-", &TAILED, [0, 0, 0])?;
-    assert_eq!(rt; tailed.status, Status::Ok);
-    assert_eq!(rt; tailed.written.bytes(), MODULE.as_slice());
-    Ok(())
+/// A run and what it must leave.
+#[derive(Clone, Copy)]
+struct Row {
+    texts: &'static [&'static str],
+    name: &'static str,
+    bytes: &'static [u8],
+    calls: [u64; 3],
+    status: Status,
+    stream: &'static [u8],
+    named: &'static [u8],
+    told: &'static [u8],
 }
 
+/// A run over standard input without failing calls.
+const fn stream_row(
+    texts: &'static [&'static str],
+    bytes: &'static [u8],
+    status: Status,
+    stream: &'static [u8],
+    told: &'static [u8],
+) -> Row {
+    Row {
+        texts,
+        name: "-",
+        bytes,
+        calls: [0, 0, 0],
+        status,
+        stream,
+        named: b"",
+        told,
+    }
+}
+
+/// A run with a failing call, which leaves nothing on the stream.
+const fn fault_row(
+    texts: &'static [&'static str],
+    calls: [u64; 3],
+    status: Status,
+    told: &'static [u8],
+) -> Row {
+    Row {
+        texts,
+        name: "-",
+        bytes: &SMALLEST,
+        calls,
+        status,
+        stream: b"",
+        named: b"",
+        told,
+    }
+}
+
+const FAULT: &[u8] = b"vkd3d-compiler: outside fault\n";
+
+const USAGE: &[u8] = b"vkd3d-compiler: wrong words\n";
+
 #[test]
-fn says_why_nothing_was_made(rt: HostRuntime) -> Result<(), Fail> {
-    let empty = run_with(rt.alloc(), &[], "-", b"", [0, 0, 0])?;
-    assert_eq!(rt; empty.status, Status::Refused);
-    assert_eq!(rt;
-        empty.told.bytes(),
-        b"vkd3d-compiler: C1 at 0: container shorter than 32 bytes\n".as_slice()
-    );
-    assert_eq!(rt; empty.written.bytes().len(), 0);
-    let cut = run_with(rt.alloc(), &[], "-", &SMALLEST[..71], [0, 0, 0])?;
-    assert_eq!(rt; cut.status, Status::Refused);
-    assert_eq!(rt;
-        cut.told.bytes(),
-        b"vkd3d-compiler: C4 at 24: wrong total size\n".as_slice()
-    );
-    let wrong = run_with(rt.alloc(), &["a", "b"], "-", &SMALLEST, [0, 0, 0])?;
-    assert_eq!(rt; wrong.status, Status::Usage);
-    assert_eq!(rt;
-        wrong.told.bytes(),
-        b"vkd3d-compiler: wrong words\n".as_slice()
-    );
-    let missing = run_with(rt.alloc(), &["x"], "-", &SMALLEST, [0, 0, 0])?;
-    assert_eq!(rt; missing.status, Status::Fault);
-    assert_eq!(rt;
-        missing.told.bytes(),
-        b"vkd3d-compiler: outside fault\n".as_slice()
-    );
-    assert_eq!(rt; missing.written.bytes().len(), 0);
+fn rows(rt: HostRuntime) -> Result<(), Fail> {
+    let named = Row {
+        texts: &["-o", "module", "container"],
+        name: "container",
+        bytes: &SMALLEST,
+        calls: [0, 0, 0],
+        status: Status::Ok,
+        stream: b"",
+        named: &MODULE,
+        told: b"",
+    };
+    let rows = [
+        stream_row(&[], &SMALLEST, Status::Ok, &MODULE, b""),
+        stream_row(&["-"], &TAILED, Status::Ok, &MODULE, b""),
+        row(
+            &[],
+            b"",
+            Status::Refused,
+            b"",
+            b"vkd3d-compiler: C1 at 0: container shorter than 32 bytes\n",
+        ),
+        row(
+            &[],
+            &SMALLEST[..71],
+            Status::Refused,
+            b"",
+            b"vkd3d-compiler: C4 at 24: wrong total size\n",
+        ),
+        stream_row(&["a", "b"], &SMALLEST, Status::Usage, b"", USAGE),
+        stream_row(&["-o"], &SMALLEST, Status::Usage, b"", USAGE),
+        stream_row(&["x"], &SMALLEST, Status::Fault, b"", FAULT),
+        fault_row(&[], [1, 0, 0], Status::Fault, FAULT),
+        fault_row(&[], [2, 0, 0], Status::Fault, FAULT),
+        fault_row(&[], [3, 0, 0], Status::Fault, FAULT),
+        fault_row(&["-o", "m"], [4, 0, 0], Status::Fault, FAULT),
+        fault_row(&["-o", "m"], [5, 0, 0], Status::Fault, FAULT),
+        fault_row(&[], [0, 1, 0], Status::Fault, FAULT),
+        fault_row(&["a", "b"], [0, 0, 1], Status::Usage, b""),
+        named,
+    ];
+    for row in &rows {
+        let left = run_with(rt.alloc(), row.texts, row.name, row.bytes, row.calls)?;
+        assert_eq!(rt; left.status, row.status);
+        assert_eq!(rt; left.stream.as_slice(), row.stream);
+        assert_eq!(rt; left.named.as_slice(), row.named);
+        assert_eq!(rt; left.told.as_slice(), row.told);
+    }
     Ok(())
 }
 
@@ -128,53 +202,8 @@ fn refuses_a_byte_too_many(rt: HostRuntime) -> Result<(), Fail> {
     let large = run_with(rt.alloc(), &[], "-", &bytes, [0, 0, 0])?;
     assert_eq!(rt; large.status, Status::Refused);
     assert_eq!(rt;
-        large.told.bytes(),
+        large.told.as_slice(),
         b"vkd3d-compiler: M1 at 16777216: file too large\n".as_slice()
     );
-    assert_eq!(rt; large.written.bytes().len(), 0);
-    Ok(())
-}
-
-#[test]
-fn writes_a_named_output(rt: HostRuntime) -> Result<(), Fail> {
-    let named = run_with(
-        rt.alloc(),
-        &["-o", "module", "container"],
-        "container",
-        &SMALLEST,
-        [0, 0, 0],
-    )?;
-    assert_eq!(rt; named.status, Status::Ok);
-    assert_eq!(rt; named.written.bytes().len(), 0);
-    assert_eq!(rt; named.told.bytes().len(), 0);
-    assert_eq!(rt; named.files.outputs(), 1);
-    assert_eq!(rt; named.files.output_name(0), "module");
-    assert_eq!(rt; named.files.output(0), MODULE.as_slice());
-    Ok(())
-}
-
-#[test]
-fn each_call_may_fail(rt: HostRuntime) -> Result<(), Fail> {
-    for call in 1..4 {
-        let reading = run_with(rt.alloc(), &[], "-", &SMALLEST, [call, 0, 0])?;
-        assert_eq!(rt; reading.status, Status::Fault);
-        assert_eq!(rt; reading.written.bytes().len(), 0);
-        assert_eq!(rt; reading.files.outputs(), 0);
-        assert_eq!(rt;
-            reading.told.bytes(),
-            b"vkd3d-compiler: outside fault\n".as_slice()
-        );
-    }
-    for call in 4..6 {
-        let naming = run_with(rt.alloc(), &["-o", "m"], "-", &SMALLEST, [call, 0, 0])?;
-        assert_eq!(rt; naming.status, Status::Fault);
-        assert_eq!(rt; naming.written.bytes().len(), 0);
-    }
-    let writing = run_with(rt.alloc(), &[], "-", &SMALLEST, [0, 1, 0])?;
-    assert_eq!(rt; writing.status, Status::Fault);
-    assert_eq!(rt; writing.written.bytes().len(), 0);
-    let telling = run_with(rt.alloc(), &["a", "b"], "-", &SMALLEST, [0, 0, 1])?;
-    assert_eq!(rt; telling.status, Status::Usage);
-    assert_eq!(rt; telling.told.bytes().len(), 0);
     Ok(())
 }

@@ -1,2 +1,4 @@
 pub mod Bytes
 pub mod Least
+pub mod Digits
+pub mod Fields

@@ -3,3 +3,5 @@ pub mod Rules
 pub mod Lanes
 pub mod Registers
 pub mod Settings
+pub mod Bits
+pub mod Alu

@@ -1,0 +1,18 @@
+-- A row of places, each empty or holding a value, and the list of what the first of them hold.
+use Rattle.std.specs.Prelude.{◌≡◌, ℕ, zero, suc, List, [], ◌∷◌, length, get_or, Option, Some, None}
+
+module _ {X : Type 0} where
+  -- the place at the index holds a value
+  abbrev pub Holds : List (Option X) → ℕ → Type 0
+  Holds places index = (x : X) × (get_or places index None ≡ Some x)
+
+  -- the values in the first n places, in their order
+  abbrev pub stored : ℕ → List (Option X) → List X
+  stored zero places = []
+  stored (suc n) [] = []
+  stored (suc n) (None ∷ places) = stored n places
+  stored (suc n) (Some x ∷ places) = x ∷ stored n places
+
+  -- each of the first n places holds a value
+  abbrev pub IsStored : ℕ → List (Option X) → Type 0
+  IsStored n places = length (stored n places) ≡ n

@@ -1,0 +1,103 @@
+ghost use Rattle.std.specs.Prelude.{◌≡◌, ◌+◌, ◌<◌, ◌∷◌, [], ◌++◌, List, ℕ, length, slice_get, Some, IfOk};
+ghost use Rattle.node_pool.specs.declared.tests.Node.{Node};
+
+use crate::Pool;
+use std::alloc::Global;
+use std::marker::Model;
+use std::test::Fail;
+use word_base::NoMemory;
+
+#[derive(Clone, Copy, Debug, PartialEq, Eq)]
+enum Node {
+    Nothing,
+    Word(u32),
+    Sum { left: u32, right: u32 },
+}
+
+/// A struct that holds two pools.
+#[derive(Drop)]
+struct Tree {
+    nodes: Pool<Node>,
+    words: Pool<u32>,
+}
+
+impl Model for Tree {
+    ghost Value = { List Node × List ℕ };
+
+    ghost view = { λ t. (t.nodes.list, t.words.list) };
+
+    ghost invariant = { λ t. (t.nodes.capacity ≡ 4) × (t.words.capacity ≡ 4) };
+}
+
+impl Tree {
+    fn make(alloc: Global) -> Result<Tree, NoMemory>
+        ensures { IfOk result (λ t. t ≡ ([], [])) }
+    {
+        let nodes = Pool::make(alloc, 4)?;
+        let words = Pool::make(alloc, 4)?;
+        Ok(Tree { nodes, words })
+    }
+
+    fn nodes(&self) -> &Pool<Node>
+        ensures { result.now.list ≡ self.now.0 }
+    {
+        &self.nodes
+    }
+
+    fn add(&mut self, node: Node, word: u32)
+        requires { (length self.old.0 < 4) × (length self.old.1 < 4) }
+        ensures { self.new ≡ (self.old.0 ++ node ∷ [], self.old.1 ++ word ∷ []) }
+    {
+        self.nodes.push(node);
+        self.words.push(word);
+    }
+}
+
+fn node_at(nodes: &Pool<Node>, id: u32) -> Node
+    requires { id < length nodes.now.list }
+    ensures { slice_get nodes.now.list id ≡ Some result }
+{
+    nodes.get(id)
+}
+
+#[test]
+fn words_are_cleared_and_refilled(rt: HostRuntime) -> Result<(), Fail> {
+    let mut pool = Pool::make(rt.alloc(), 2)?;
+    let first = pool.push(7);
+    let second = pool.push(9);
+    pool.clear();
+    let again = pool.push(5);
+    assert_eq!(rt; (first, second, again), (0, 1, 0));
+    assert_eq!(rt; (pool.len(), pool.get(0), pool.capacity()), (1, 5, 2));
+    Ok(())
+}
+
+#[test]
+fn a_tree_holds_two_pools(rt: HostRuntime) -> Result<(), Fail> {
+    let mut tree = Tree::make(rt.alloc())?;
+    tree.add(Node::Word(4), 1);
+    tree.add(Node::Sum { left: 0, right: 0 }, 2);
+    tree.add(Node::Nothing, 3);
+    assert_eq!(rt; node_at(tree.nodes(), 1), Node::Sum { left: 0, right: 0 });
+    tree.nodes.set(1, Node::Word(8));
+    tree.words.clear();
+    assert_eq!(rt; node_at(tree.nodes(), 0), Node::Word(4));
+    assert_eq!(rt; node_at(tree.nodes(), 1), Node::Word(8));
+    assert_eq!(rt; node_at(tree.nodes(), 2), Node::Nothing);
+    Ok(())
+}
+
+#[test]
+fn a_pool_may_have_no_place(rt: HostRuntime) -> Result<(), Fail> {
+    let mut pool: Pool<Node> = Pool::make(rt.alloc(), 0)?;
+    pool.clear();
+    assert_eq!(rt; (pool.len(), pool.capacity()), (0, 0));
+    Ok(())
+}
+
+/// More bytes than the machine can address: 2 ^ 31 + 8 for each of 2 ^ 32 - 1 places.
+#[test]
+fn a_region_too_large_is_refused(rt: HostRuntime) {
+    let huge: Result<Pool<[u64; 0x1000_0001]>, NoMemory> = Pool::make(rt.alloc(), u32::MAX);
+    assert!(rt; huge.is_err());
+}

@@ -1,0 +1,10 @@
+pub mod Ranges
+pub mod Order
+pub mod Chains
+pub mod Heads
+pub mod Operands
+pub mod Wholes
+pub mod Spelled
+pub mod Same
+pub mod Read
+pub mod Instructions
