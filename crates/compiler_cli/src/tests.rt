@@ -160,14 +160,14 @@ fn rows(rt: HostRuntime) -> Result<(), Fail> {
     let rows = [
         stream_row(&[], &SMALLEST, Status::Ok, &MODULE, b""),
         stream_row(&["-"], &TAILED, Status::Ok, &MODULE, b""),
-        row(
+        stream_row(
             &[],
             b"",
             Status::Refused,
             b"",
             b"vkd3d-compiler: C1 at 0: container shorter than 32 bytes\n",
         ),
-        row(
+        stream_row(
             &[],
             &SMALLEST[..71],
             Status::Refused,
