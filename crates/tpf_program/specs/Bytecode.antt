@@ -1,11 +1,17 @@
--- A lane of a program. (Shader Model 5 assembly reference: the instructions.)
-use Rattle.std.specs.Prelude.{◌≡◌, ℕ, ◌+◌, nat_eq, if◌then◌else◌, List, [], ◌∷◌, ◌++◌, length, Option, Some, None, slice_get, refl}
+-- A lane of a program. (Shader Model 5 assembly: the instructions and their order.)
+use Rattle.std.specs.Prelude.{ℕ, ◌+◌, nat_eq, not, if◌then◌else◌, Bool, true, false, List, [], ◌∷◌, ◌++◌, length, Option, Some, None, slice_get}
 use Rattle.word_base.specs.declared.event.Event.{Event}
 use Rattle.word_base.specs.Lanes.{Turn, Silent, Asks, Ends}
 use Rattle.word_base.specs.Registers.{Registers, zeros}
 use Rattle.word_base.specs.Settings.{Setting}
 use Rattle.tpf_program.specs.declared.instruction.Instruction.{Instruction}
 use Rattle.tpf_program.specs.Program.{Shader}
+use Rattle.tpf_program.specs.Opcodes.{Meaning, meaning_of, If, Else, EndLoop, Continue, ContinueIf, Switch, Break, BreakIf, Return, ReturnIf}
+use Rattle.tpf_program.specs.Values.{Context, context, scalar}
+use Rattle.tpf_program.specs.Writes.{has_bit}
+use Rattle.tpf_program.specs.Plans.{parts, made, answered}
+use Rattle.tpf_program.specs.Results.{outcome}
+use Rattle.tpf_program.specs.Ends.{else_of, case_of, innermost, close_around, is_if, is_loop, is_loop_or_switch}
 
 -- The place in the flat list of instructions, the registers, and the answers to the events already made of the plan there.
 pub record State : Type 0 where
@@ -18,32 +24,52 @@ start = record { place = 0; registers = zeros; answers = [] }
 
 -- The events that an instruction makes, and the registers that it leaves, both from the registers at its start.
 abbrev pub plan : Shader → Setting → Registers → Instruction → List Event
-plan p setting registers i = []
+plan p setting registers i = made (parts (context p setting registers) (meaning_of i.code) i)
+
+abbrev pub result_by : Context → Meaning → Instruction → List ℕ → Registers
+result_by k meaning i answers = outcome k meaning i (answered (parts k meaning i) answers)
 
 abbrev pub result : Shader → Setting → Registers → Instruction → List ℕ → Registers
-result p setting registers i answers = registers
+result p setting registers i answers = result_by (context p setting registers) (meaning_of i.code) i answers
 
--- where an instruction goes on when its plan is made
-pub data Way : Type 0 where
-  Next : Way
-  Return : Way
+-- silent, to a place
+abbrev pub goes_to : Registers → ℕ → Turn State
+goes_to registers place = Silent (record { place = place; registers = registers; answers = [] })
 
-abbrev pub way_of : ℕ → Way
-way_of code = if nat_eq code 62 then Return else Next
+-- Behind a place. In a program that is read each place that is looked for is there; without one the lane ends.
+abbrev pub goes_behind : Registers → Option ℕ → Turn State
+goes_behind registers None = Ends
+goes_behind registers (Some place) = goes_to registers (place + 1)
 
-abbrev pub go : Way → State → Registers → Turn State
-go Next s registers = Silent (record { place = s.place + 1; registers = registers; answers = [] })
-go Return s registers = Ends
+-- the test of if, breakc, continuec and retc: bit 18 says whether it is that the scalar is not 0
+abbrev pub holds : Context → Instruction → Bool
+holds k i = if has_bit i.controls 18 then not (nat_eq (scalar k i.o0) 0) else nat_eq (scalar k i.o0) 0
+
+-- where an instruction goes when its plan is made
+abbrev pub onward : Context → ℕ → Meaning → Instruction → List ℕ → Turn State
+onward k q If i answers = if holds k i then goes_to k.registers (q + 1) else goes_behind k.registers (else_of k.program.instructions q)
+onward k q Else i answers = goes_behind k.registers (close_around is_if k.program.instructions q)
+onward k q EndLoop i answers = goes_behind k.registers (innermost is_loop k.program.instructions q)
+onward k q Continue i answers = goes_behind k.registers (innermost is_loop k.program.instructions q)
+onward k q ContinueIf i answers = if holds k i then goes_behind k.registers (innermost is_loop k.program.instructions q) else goes_to k.registers (q + 1)
+onward k q Break i answers = goes_behind k.registers (close_around is_loop_or_switch k.program.instructions q)
+onward k q BreakIf i answers =
+    if holds k i then goes_behind k.registers (close_around is_loop_or_switch k.program.instructions q) else goes_to k.registers (q + 1)
+onward k q Switch i answers = goes_behind k.registers (case_of k.program.instructions q (scalar k i.o0))
+onward k q Return i answers = Ends
+onward k q ReturnIf i answers = if holds k i then Ends else goes_to k.registers (q + 1)
+onward k q other i answers = goes_to (result_by k other i answers) (q + 1)
 
 -- the next event of a plan, or the way on behind it
 abbrev pub turn_of : State → Option Event → Turn State → Turn State
-turn_of s None onward = onward
-turn_of s (Some e) onward = Asks e (λ a. record { place = s.place; registers = s.registers; answers = s.answers ++ a ∷ [] })
+turn_of s None way = way
+turn_of s (Some e) way = Asks e (λ a. record { place = s.place; registers = s.registers; answers = s.answers ++ a ∷ [] })
 
 abbrev pub turn_at : Shader → Setting → State → Option Instruction → Turn State
 turn_at p setting s None = Ends
 turn_at p setting s (Some i) =
-    turn_of s (slice_get (plan p setting s.registers i) (length s.answers)) (go (way_of i.code) s (result p setting s.registers i s.answers))
+    turn_of s (slice_get (plan p setting s.registers i) (length s.answers))
+    (onward (context p setting s.registers) s.place (meaning_of i.code) i s.answers)
 
 -- One step of a lane. Where events of the plan are left it asks the next one; elsewhere it is silent, or the end.
 abbrev pub step : Shader → Setting → State → Turn State

@@ -2,5 +2,13 @@ pub mod Program
 pub mod Spelling
 pub mod Declarations
 pub mod StraightLine
+pub mod Opcodes
+pub mod Sizes
+pub mod Values
+pub mod Writes
+pub mod Views
+pub mod Plans
+pub mod Results
+pub mod Ends
 pub mod Bytecode
 pub mod Extents
