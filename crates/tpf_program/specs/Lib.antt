@@ -12,3 +12,7 @@ pub mod Results
 pub mod Ends
 pub mod Bytecode
 pub mod Extents
+pub mod ExampleParts
+pub mod FlowExamples
+pub mod ValueExamples
+pub mod PlanExamples

@@ -1,0 +1,133 @@
+-- Plans and results of instructions on views.
+use Rattle.std.specs.Prelude.{◌≡◌, ℕ, true, false, List, [], ◌∷◌, Option, Some, None, refl}
+use Rattle.word_base.specs.declared.event.Act.TheVariants.{Add, Sub}
+use Rattle.word_base.specs.declared.event.Event.{Event}
+use Rattle.word_base.specs.declared.event.Event.TheVariants.{Load, Store, Atomic, Fence, Barrier}
+use Rattle.word_base.specs.declared.event.Ids.{Ids}
+use Rattle.word_base.specs.declared.event.Room.{Room}
+use Rattle.word_base.specs.declared.event.Room.TheVariants.{Resource, Uav, Counter}
+use Rattle.word_base.specs.declared.event.Scope.TheVariants.{Device, Group}
+use Rattle.word_base.specs.Registers.{Registers, zeros}
+use Rattle.word_base.specs.Settings.{Setting}
+use Rattle.tpf_program.specs.declared.declaration.Declaration.TheVariants as declaration
+use Rattle.tpf_program.specs.declared.declaration.ViewKind.TheVariants.{Raw, Structured}
+use Rattle.tpf_program.specs.declared.instruction.Argument.{Argument}
+use Rattle.tpf_program.specs.declared.instruction.Instruction.{Instruction}
+use Rattle.tpf_program.specs.declared.instruction.Kind.TheVariants as kind
+use Rattle.tpf_program.specs.declared.instruction.Select.TheVariants.{Bare, Mask, Swizzle, One}
+use Rattle.tpf_program.specs.Program.{Shader}
+use Rattle.tpf_program.specs.Spelling.{nothing}
+use Rattle.tpf_program.specs.Opcodes.{meaning_but_return}
+use Rattle.tpf_program.specs.Bytecode.{plan, result}
+use Rattle.tpf_program.specs.ExampleParts.{slot_of, literal, r0_to, instruction, bare, program_of, setting_of}
+
+-- t0 of structures of two words, t1 raw, u0 of structures of one word, u1 raw
+abbrev pub viewing : Shader
+viewing = program_of
+    (declaration.Resource 0 (Structured 8) ∷ declaration.Resource 1 Raw ∷ declaration.Uav 0 (Structured 4) false false ∷ declaration.Uav 1 Raw false false ∷ declaration.Temps 1 ∷ []) []
+
+-- a view with all components, x to w
+abbrev pub read_from : ℕ → Argument
+read_from slot = slot_of kind.Resource slot (Swizzle 0xE4)
+
+-- what an instruction does where each room has that many words, but for a counter one
+abbrev pub lengths : ℕ → Room → ℕ
+lengths n (Counter slot) = 1
+lengths n room = n
+
+abbrev pub planned : Ids → ℕ → Instruction → List Event
+planned ids n i = plan viewing (setting_of ids (lengths n)) zeros i
+
+abbrev pub left_by : Ids → ℕ → Instruction → List ℕ → Registers
+left_by ids n i answers = result viewing (setting_of ids (lengths n)) zeros i answers
+
+-- ld_structured r0.xyzw, l(1), l(0), t0.xyzw: of the second structure x and y are there, z and w are past it
+abbrev pub half_in_range : Instruction
+half_in_range = instruction 167 0 (r0_to 15) (literal 1) (literal 0) (read_from 0)
+
+pub two_loads : (ids : Ids) → planned ids 4 half_in_range ≡ Load (Resource 0) 2 ∷ Load (Resource 0) 3 ∷ []
+unfolding meaning_but_return
+two_loads ids = refl
+
+pub loaded_y : (ids : Ids) → (left_by ids 4 half_in_range (70 ∷ 80 ∷ [])).temp 0 1 ≡ 80
+unfolding meaning_but_return
+loaded_y ids = refl
+
+pub loaded_z : (ids : Ids) → (left_by ids 4 half_in_range (70 ∷ 80 ∷ [])).temp 0 2 ≡ 0
+unfolding meaning_but_return
+loaded_z ids = refl
+
+-- ld_raw r0.xyzw, l(4294967292), t1.xyzw: no word is in range, since the sum of word and component does not wrap
+abbrev pub wrapped_address : Instruction
+wrapped_address = instruction 165 0 (r0_to 15) (literal 4294967292) (read_from 1) nothing
+
+pub no_loads : (ids : Ids) → planned ids 4 wrapped_address ≡ []
+unfolding meaning_but_return
+no_loads ids = refl
+
+-- store_raw u1.xyzw, l(8), l(7): of three words the last is written, and what is past them vanishes
+pub one_store : (ids : Ids) → planned ids 3 (instruction 166 0 (slot_of kind.Uav 1 (Mask 15)) (literal 8) (literal 7) nothing) ≡ Store (Uav 1) 2 7 ∷ []
+unfolding meaning_but_return
+one_store ids = refl
+
+-- imm_atomic_iadd null, u1, l(4), l(9): without a destination it is the same event, and no register is changed
+abbrev pub into_null : Instruction
+into_null = instruction 180 0 nothing (slot_of kind.Uav 1 Bare) (literal 4) (literal 9)
+
+pub one_atomic : (ids : Ids) → planned ids 4 into_null ≡ Atomic (Uav 1) 1 Add 9 0 ∷ []
+unfolding meaning_but_return
+one_atomic ids = refl
+
+pub nothing_written : (ids : Ids) → left_by ids 4 into_null (5 ∷ []) ≡ zeros
+unfolding meaning_but_return
+nothing_written ids = refl
+
+-- The same on the structured u0: the word 4 is the index, and past four structures there is no event and the result is 0.
+abbrev pub past_structures : Instruction
+past_structures = instruction 180 0 (r0_to 1) (slot_of kind.Uav 0 Bare) (literal 4) (literal 9)
+
+pub no_atomic : (ids : Ids) → planned ids 4 past_structures ≡ []
+unfolding meaning_but_return
+no_atomic ids = refl
+
+-- imm_atomic_consume r0.x, u0: the answer less one
+abbrev pub consuming : Instruction
+consuming = instruction 179 0 (r0_to 1) (slot_of kind.Uav 0 Bare) nothing nothing
+
+pub one_step : (ids : Ids) → planned ids 0 consuming ≡ Atomic (Counter 0) 0 Sub 1 0 ∷ []
+unfolding meaning_but_return
+one_step ids = refl
+
+pub consumed : (ids : Ids) → (left_by ids 0 consuming (3 ∷ [])).temp 0 0 ≡ 2
+unfolding meaning_but_return
+consumed ids = refl
+
+pub consumed_from_zero : (ids : Ids) → (left_by ids 0 consuming (0 ∷ [])).temp 0 0 ≡ 0xFFFFFFFF
+unfolding meaning_but_return
+consumed_from_zero ids = refl
+
+pub no_counter : (ids : Ids) → (result viewing (setting_of ids (λ room. 0)) zeros consuming []).temp 0 0 ≡ 0
+unfolding meaning_but_return
+no_counter ids = refl
+
+-- sync_g_t (010018BE), and sync_uglobal (010040BE)
+pub group_barrier : (ids : Ids) → planned ids 0 (record (bare 190) { controls = 0x1800 }) ≡ Barrier Group (record { buffers = false; shared = true }) ∷ []
+unfolding meaning_but_return
+group_barrier ids = refl
+
+pub device_fence : (ids : Ids) → planned ids 0 (record (bare 190) { controls = 0x4000 }) ≡ Fence Device (record { buffers = true; shared = false }) ∷ []
+unfolding meaning_but_return
+device_fence ids = refl
+
+-- bufinfo r0.xyzw, t0.xyzw: two structures of 8 bytes; bufinfo r0.xyzw, t1.xyzw: 16 bytes
+pub structures : (ids : Ids) → (left_by ids 4 (instruction 121 0 (r0_to 15) (read_from 0) nothing nothing) []).temp 0 0 ≡ 2
+unfolding meaning_but_return
+structures ids = refl
+
+pub stride : (ids : Ids) → (left_by ids 4 (instruction 121 0 (r0_to 15) (read_from 0) nothing nothing) []).temp 0 1 ≡ 8
+unfolding meaning_but_return
+stride ids = refl
+
+pub bytes : (ids : Ids) → (left_by ids 4 (instruction 121 0 (r0_to 15) (read_from 1) nothing nothing) []).temp 0 0 ≡ 16
+unfolding meaning_but_return
+bytes ids = refl
