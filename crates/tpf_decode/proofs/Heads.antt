@@ -1,10 +1,10 @@
 -- The refusals of an opcode's tokens.
-use Rattle.std.proofs.Common.{◌≡◌, ◌≢◌, ℕ, nat_eq, suc, ◌+◌, ◌-◌, ◌<◌, ◌≤◌, List, [], ◌∷◌, ◌++◌, length, take, drop, Option, Some, None, Bool, true, false, not, ◌&&◌, ◌||◌, refl, sym, ap, ◌∙◌, subst, arith}
+use Rattle.std.proofs.Common.{◌≡◌, ◌≢◌, ℕ, nat_eq, ◌+◌, ◌-◌, ◌<◌, ◌≤◌, List, [], ◌∷◌, length, take, drop, None, Bool, true, false, not, ◌&&◌, ◌||◌, refl, sym, ap, ◌∙◌, subst, arith}
 use Rattle.std.specs.Prelude.{slice_range, slice_index, nat_le}
 use Rattle.std.proofs.lemmas.List.{take-take}
 use Rattle.word_base.specs.declared.rule.Rule.{Rule}
 use Rattle.word_base.specs.declared.rule.Rule.TheVariants.{K3, K4, K12, K14, K15}
-use Rattle.word_base.specs.Rules.{refusal, first}
+use Rattle.word_base.specs.Rules.{first}
 use Rattle.tpf_decode.specs.declared.chain.Extended.TheVariants.{Opcode}
 use Rattle.std.proofs.lemmas.Bool.Decides.{nat_tests}
 use Rattle.std.specs.List.{list_all}
@@ -12,7 +12,7 @@ use Rattle.tpf_decode.specs.declared.extent.Extent.{Extent}
 use Rattle.tpf_decode.specs.Profiles.{Profile, Base}
 use Rattle.tpf_decode.specs.Tokens.{follows, length_of, class_of, opcode_of, controls_of}
 use Rattle.tpf_decode.specs.Declarations.{is_known}
-use Rattle.tpf_decode.specs.Spelling.{IsChain, is_vectors, SpellsHead, SpellsCustom}
+use Rattle.tpf_decode.specs.Spelling.{IsChain, is_vectors}
 use Rattle.tpf_decode.specs.Refusals.{Rest, IsOrderly, nothing, Test, breaks, first_rule, is_wrong_length, saturates, has_wrong_sync, has_wrong_flags, head_tests, head_faults, chain_faults, is_taken, is_custom, is_custom_size, IsCut, IsExtent}
 use Rattle.tpf_decode.proofs.Ranges.{range_cons, length-range}
 use Rattle.tpf_decode.proofs.Order.{IsRising, by_rule, first_of_tests}

@@ -1,13 +1,11 @@
 -- Instructions as wholes.
-use Rattle.std.proofs.Common.{◌≡◌, ℕ, zero, suc, ◌+◌, ◌-◌, ◌<◌, ◌≤◌, List, [], ◌∷◌, ◌++◌, length, take, Option, Some, None, Bool, true, false, not, nat_eq, refl, sym, ap, ◌∙◌, subst, arith, append_assoc}
+use Rattle.std.proofs.Common.{◌≡◌, ℕ, ◌+◌, ◌-◌, ◌<◌, ◌≤◌, List, [], ◌∷◌, ◌++◌, length, take, Option, Some, None, Bool, true, false, not, nat_eq, refl, sym, ap, ◌∙◌, subst, arith, append_assoc}
 use Rattle.std.specs.Prelude.{slice_range, slice_index, if◌then◌else◌}
 use Rattle.std.specs.List.{list_all}
-use Rattle.std.proofs.lemmas.List.{length-append}
-use Rattle.std.proofs.lemmas.Bool.Decides.{nat_tests}
 use Rattle.word_base.specs.declared.rule.Rule.{Rule}
 use Rattle.word_base.specs.declared.rule.Rule.TheVariants.{K13}
 use Rattle.word_base.specs.declared.rule.Refusal.{Refusal}
-use Rattle.word_base.specs.Rules.{refusal, first}
+use Rattle.word_base.specs.Rules.{first}
 use Rattle.tpf_decode.specs.declared.argument.Role.{Role}
 use Rattle.tpf_decode.specs.declared.argument.Argument.{Argument}
 use Rattle.tpf_decode.specs.declared.chain.Extended.TheVariants.{Opcode}
@@ -16,7 +14,7 @@ use Rattle.tpf_decode.specs.Profiles.{Profile, Base}
 use Rattle.tpf_decode.specs.Tokens.{follows, length_of, opcode_of, controls_of}
 use Rattle.tpf_decode.specs.Declarations.{layout_of, roles_at}
 use Rattle.tpf_decode.specs.Spelling.{IsChain, SpellsHead, SpellsOperands, Spells, further_words}
-use Rattle.tpf_decode.specs.Refusals.{Rest, nothing, StandsFrom, IsOrderly, broken, broken_at, first_rule, is_taken, head_tests, head_faults, chain_faults, is_custom, is_custom_data, faults_with, cut_faults, operands_faults, IsCut, IsExtent}
+use Rattle.tpf_decode.specs.Refusals.{Rest, nothing, IsOrderly, broken, first_rule, is_taken, head_tests, head_faults, chain_faults, is_custom, is_custom_data, faults_with, cut_faults, operands_faults, IsCut, IsExtent}
 use Rattle.tpf_decode.proofs.Ranges.{range_cons, length-range}
 use Rattle.tpf_decode.proofs.Order.{by_rule, no_tests}
 use Rattle.tpf_decode.proofs.Chains.{nothing_orderly}

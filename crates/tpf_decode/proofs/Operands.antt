@@ -1,5 +1,5 @@
 -- The words behind an operand's tokens.
-use Rattle.std.proofs.Common.{◌≡◌, ◌≢◌, ℕ, zero, suc, ◌+◌, ◌-◌, ◌<◌, ◌≤◌, List, [], ◌∷◌, ◌++◌, length, take, drop, Option, Some, None, Bool, true, false, not, ◌&&◌, ◌||◌, refl, sym, ap, ◌∙◌, subst, arith}
+use Rattle.std.proofs.Common.{◌≡◌, ℕ, ◌+◌, ◌-◌, ◌<◌, ◌≤◌, List, [], ◌∷◌, ◌++◌, length, take, drop, Option, Some, None, Bool, true, false, not, ◌&&◌, refl, sym, ap, ◌∙◌, arith}
 use Rattle.std.specs.Prelude.{slice_range, slice_index, nat_lt, if◌then◌else◌}
 use Rattle.std.proofs.lemmas.Bool.Decides.{nat_tests}
 use Rattle.std.proofs.lemmas.List.{drop-take, drop-drop}
@@ -7,13 +7,12 @@ use Rattle.word_base.specs.declared.rule.Rule.TheVariants.{K9, K11}
 use Rattle.word_base.specs.Rules.{refusal, first}
 use Rattle.tpf_decode.specs.declared.argument.Kind.{Kind}
 use Rattle.tpf_decode.specs.declared.argument.Kind.TheVariants.{Temp, Indexable, Constant, ThreadId, GroupId, IdInGroup, FlatId}
-use Rattle.tpf_decode.specs.declared.argument.Relative.{Relative}
 use Rattle.tpf_decode.specs.Tokens.{follows, kind_of, Fixed, Literal, Slot, Nothing, fixed_count}
 use Rattle.tpf_decode.specs.Roles.{index_count, is_relative, is_relative_by, is_relative_of, is_relative_type}
-use Rattle.tpf_decode.specs.Spelling.{SpellsImmediate, SpellsFixed, SpellsPlace, SpellsRelative, component_of}
-use Rattle.tpf_decode.specs.Refusals.{Rest, nothing, StandsFrom, IsOrderly, behind_words, place_count, relative_faults, broken}
+use Rattle.tpf_decode.specs.Spelling.{SpellsImmediate, SpellsFixed, SpellsPlace}
+use Rattle.tpf_decode.specs.Refusals.{Rest, StandsFrom, IsOrderly, behind_words, place_count, relative_faults, broken}
 use Rattle.tpf_decode.proofs.Ranges.{range_none, range_cons, range_one, range_split, length-range}
-use Rattle.tpf_decode.proofs.Order.{first_broken, behind_place, StandsFrom-append, StandsFrom-broken, stands_earlier}
+use Rattle.tpf_decode.proofs.Order.{first_broken, behind_place, stands_earlier}
 
 pub range_drop : (words : List ℕ) (at count end : ℕ) → at + count ≤ end → drop count (slice_range words at end) ≡ slice_range words (at + count) end
 range_drop words at count end h =

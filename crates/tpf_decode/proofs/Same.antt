@@ -9,7 +9,7 @@ use Rattle.tpf_decode.specs.declared.argument.Argument.{Argument}
 use Rattle.tpf_decode.specs.declared.argument.Relative.{Relative}
 use Rattle.tpf_decode.specs.Profiles.{Profile}
 use Rattle.tpf_decode.specs.Tokens.{follows, kind_of, select_of, Fixed, Literal, Slot, Nothing, fixed_of, element_of, has_immediate, has_relative, is_negation}
-use Rattle.tpf_decode.specs.Spelling.{IsChain, component_of, SpellsPlace, SpellsRelative, SpellsImmediate, SpellsAddend, SpellsIndex, SpellsElement, SpellsFixed, SpellsBehind, SpellsOperand}
+use Rattle.tpf_decode.specs.Spelling.{IsChain, component_of, SpellsPlace, SpellsRelative, SpellsImmediate, SpellsAddend, SpellsElement, SpellsFixed, SpellsOperand}
 
 -- two lists that begin with parts of their own
 behind_front : (ws front back more vs : List ℕ) → ws ≡ front ++ back → ws ++ more ≡ vs → front ++ (back ++ more) ≡ vs

@@ -1,5 +1,5 @@
 -- Whole operands: their refusals, in order.
-use Rattle.std.proofs.Common.{◌≡◌, ℕ, zero, suc, ◌+◌, ◌-◌, ◌<◌, ◌≤◌, List, [], ◌∷◌, ◌++◌, length, take, drop, Option, Some, None, Bool, true, false, not, ◌&&◌, ◌||◌, refl, sym, ap, ◌∙◌, subst, arith}
+use Rattle.std.proofs.Common.{◌≡◌, ℕ, ◌+◌, ◌<◌, ◌≤◌, List, [], ◌∷◌, length, drop, Option, Some, None, Bool, true, false, not, ◌&&◌, ◌||◌, refl, sym, ap, ◌∙◌, arith}
 use Rattle.std.specs.Prelude.{slice_range, slice_index, nat_lt, if◌then◌else◌}
 use Rattle.std.specs.List.{list_all}
 use Rattle.word_base.specs.declared.rule.Rule.{Rule}
@@ -15,10 +15,10 @@ use Rattle.tpf_decode.specs.Profiles.{Profile}
 use Rattle.tpf_decode.specs.Tokens.{follows, kind_of, has_selection, select_of, fixed_of, fixed_count, element_of, has_relative, immediate_count}
 use Rattle.tpf_decode.specs.Roles.{may_negate, is_relative, is_allowed, takes, has_indices, is_declaration}
 use Rattle.tpf_decode.specs.Spelling.{IsChain, SpellsToken}
-use Rattle.tpf_decode.specs.Refusals.{broken, Rest, nothing, StandsFrom, IsOrderly, is_taken, rule_of, chain_faults, Test, breaks, broken_at, first_rule, selects, allows, indexes, token_tests, behind_words, place_count, relative_faults, element_faults, behind_faults, operand_faults}
-use Rattle.tpf_decode.proofs.Ranges.{range_none, range_cons}
+use Rattle.tpf_decode.specs.Refusals.{broken, Rest, nothing, IsOrderly, is_taken, rule_of, chain_faults, breaks, broken_at, first_rule, selects, allows, indexes, token_tests, behind_words, place_count, relative_faults, element_faults, behind_faults, operand_faults}
+use Rattle.tpf_decode.proofs.Ranges.{range_cons}
 use Rattle.tpf_decode.proofs.Order.{IsRising, by_rule, first_of_tests, first_broken, behind_place, StandsFrom-append, StandsFrom-broken, StandsFrom-tests, stands_earlier}
-use Rattle.tpf_decode.proofs.Chains.{chain_orderly, first_of_chain, nothing_orderly, leads_of, Walked, first_behind}
+use Rattle.tpf_decode.proofs.Chains.{chain_orderly, first_of_chain, nothing_orderly, leads_of, first_behind}
 use Rattle.tpf_decode.proofs.Operands.{words_orderly}
 
 relative_orderly : (b : Bool) (rest : Rest) → IsOrderly rest → IsOrderly (relative_faults b rest)

@@ -1,6 +1,6 @@
 -- The declarations: each with its opcode, its name in assembly text, the role of its operand where it has one, the type that the
 -- operand must be of where the opcode fixes it, the number of words behind the operand, and the first profile that has it.
-use Rattle.std.specs.Prelude.{◌≡◌, ℕ, nat_eq, ◌||◌, if◌then◌else◌, Bool, true, false, List, [], ◌∷◌, ◌++◌, filter, Option, Some, None, is_some, codes, Contains, refl}
+use Rattle.std.specs.Prelude.{ℕ, nat_eq, ◌||◌, if◌then◌else◌, Bool, List, [], ◌∷◌, filter, Option, Some, None, is_some, codes, Contains}
 use Rattle.tpf_decode.specs.Profiles.{Profile, Base, Typed, includes}
 use Rattle.tpf_decode.specs.Opcodes.{roles_of, form_of}
 use Rattle.tpf_decode.specs.declared.argument.Role.{Role}

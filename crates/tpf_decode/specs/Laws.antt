@@ -6,7 +6,7 @@ use Rattle.tpf_decode.specs.declared.argument.Argument.{Argument}
 use Rattle.tpf_decode.specs.declared.argument.Role.{Role}
 use Rattle.tpf_decode.specs.declared.extent.Extent.{Extent}
 use Rattle.tpf_decode.specs.Profiles.{Profile, Base}
-use Rattle.tpf_decode.specs.Spelling.{SpellsOperand, SpellsOperands, Spells}
+use Rattle.tpf_decode.specs.Spelling.{SpellsOperand, Spells}
 use Rattle.tpf_decode.specs.Refusals.{Rest, nothing, IsOrderly, operand_faults, operands_faults, cut_faults, faults_with, IsExtent}
 
 -- Two operands whose words begin alike are the same, and end at one place.

@@ -1,6 +1,6 @@
 -- The opcode table: each instruction with its opcode, its name in assembly text, the operands that it takes, and the first profile
 -- that has it. Declarations and custom data stand beside it.
-use Rattle.std.specs.Prelude.{◌≡◌, ℕ, nat_eq, ◌&&◌, if◌then◌else◌, Bool, true, false, List, [], ◌∷◌, filter, map, length, sum, Option, Some, None, codes, refl}
+use Rattle.std.specs.Prelude.{◌≡◌, ℕ, nat_eq, if◌then◌else◌, Bool, true, false, List, [], ◌∷◌, filter, Option, Some, None, codes, refl}
 use Rattle.tpf_decode.specs.Profiles.{Profile, Base, Typed, includes}
 use Rattle.tpf_decode.specs.declared.argument.Role.{Role}
 use Rattle.tpf_decode.specs.declared.argument.Role.TheVariants.{Dest, Source, Scalar, Pair, ViewRead, ViewWrite, ViewName, Literal}

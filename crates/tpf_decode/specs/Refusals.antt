@@ -1,12 +1,12 @@
 -- The rules of tokens: which are broken, each with its place, a word's number counted from the program's first word. Of the lists
 -- here the refusal that counts is the `first`.
-use Rattle.std.specs.Prelude.{◌≡◌, ℕ, ◌+◌, ◌-◌, ◌<◌, ◌≤◌, nat_eq, nat_lt, nat_le, ◌&&◌, ◌||◌, not, if◌then◌else◌, Bool, true, false, List, [], ◌∷◌, ◌++◌, length, take, drop, slice_index, slice_range, Option, Some, None, is_some, Result, Ok, Err, refl}
+use Rattle.std.specs.Prelude.{◌≡◌, ℕ, ◌+◌, ◌-◌, ◌<◌, ◌≤◌, nat_eq, nat_lt, nat_le, ◌&&◌, ◌||◌, not, if◌then◌else◌, Bool, true, false, List, [], ◌∷◌, ◌++◌, length, take, drop, slice_index, slice_range, Option, Some, None, Result, Ok, Err, refl}
 use Rattle.tpf_decode.specs.declared.argument.Kind.{Kind}
 use Rattle.tpf_decode.specs.declared.argument.Role.{Role}
 use Rattle.tpf_decode.specs.declared.chain.Extended.{Extended}
 use Rattle.tpf_decode.specs.declared.chain.Extended.TheVariants.{Opcode, Operand}
 use Rattle.tpf_decode.specs.declared.extent.Extent.{Extent}
-use Rattle.tpf_decode.specs.Profiles.{Profile, Base, Typed}
+use Rattle.tpf_decode.specs.Profiles.{Profile, Base}
 use Rattle.tpf_decode.specs.Tokens.{opcode_of, controls_of, length_of, class_of, follows, has_flag, is_opcode_extension, kind_of, has_selection, fixed_of, fixed_count, element_of, immediate_count, has_relative, is_modifier}
 use Rattle.tpf_decode.specs.Opcodes.{form_of, is_result, row_of, opcode_table}
 use Rattle.tpf_decode.specs.Declarations.{is_known, layout_of, roles_at, declared_by, declaration_table}

@@ -1,5 +1,5 @@
 -- What the roles of the opcode table take: the types of operands, their selections, their indices and their modifiers.
-use Rattle.std.specs.Prelude.{◌≡◌, ℕ, nat_eq, ◌&&◌, ◌||◌, not, if◌then◌else◌, Bool, true, false, Option, Some, None, is_some}
+use Rattle.std.specs.Prelude.{ℕ, nat_eq, ◌&&◌, ◌||◌, not, Bool, true, false, Option, Some, None, is_some}
 use Rattle.tpf_decode.specs.declared.argument.Kind.{Kind}
 use Rattle.tpf_decode.specs.declared.argument.Kind.TheVariants.{Temp, Indexable, Immediate, Resource, Constant, ImmediateConstant, Null, Uav, Shared, ThreadId, GroupId, IdInGroup, FlatId}
 use Rattle.tpf_decode.specs.declared.argument.Role.{Role}

@@ -1,5 +1,5 @@
 -- The fields of tokens. Bits are named from the highest to the lowest, as in the token format's text.
-use Rattle.std.specs.Prelude.{◌≡◌, ℕ, ◌+◌, ◌*◌, nat_eq, ◌&&◌, ◌||◌, not, if◌then◌else◌, Bool, true, false, Option, Some, None, refl}
+use Rattle.std.specs.Prelude.{◌≡◌, ℕ, ◌*◌, nat_eq, ◌&&◌, ◌||◌, not, if◌then◌else◌, Bool, true, Option, Some, None, refl}
 use Rattle.word_base.specs.Words.{field_of}
 use Rattle.tpf_decode.specs.declared.argument.Kind.{Kind}
 use Rattle.tpf_decode.specs.declared.argument.Kind.TheVariants.{Temp, Indexable, Immediate, Resource, Constant, ImmediateConstant, Null, Uav, Shared, ThreadId, GroupId, IdInGroup, FlatId}

@@ -33,7 +33,13 @@ pub struct Extent {
     pub end: u32,
 }
 
-/// The number of words of a program, from its two first words.
+/// The number of words of a program, from its two first words: the version token of cs_5_0, and the
+/// length in words with both included. Words of the data past that number are ignored.
+///
+/// # Errors
+///
+/// K1 at 0 where the version is another, K2 at 1 where the length is below 2 or above the words of
+/// the data, and M2 at 1 where it is above 65,536, in this order.
 pub fn header(bytes: &[u8]) -> Result<u32, Refusal>
     requires { 8 ≤ length bytes.now }
     ensures refused { refusal_of result ≡ first (header_faults (words_of bytes.now)) }
@@ -71,7 +77,12 @@ fn is_wrong_flags(token: u32) -> bool
 const CUSTOM_DATA: u32 = 53;
 
 /// Where the instruction, the declaration or the custom data at a place stands, in a program of `n`
-/// words.
+/// words. Custom data has no extended tokens, so the first word behind its token is its length.
+///
+/// # Errors
+///
+/// The first of K3 to K5 and K12 to K15, and K11 where an extended token is missing, by place and
+/// then by number. Other rules of the instruction are not looked at, nor what follows it.
 pub fn cut(bytes: &[u8], n: u32, at: u32) -> Result<Extent, Refusal>
     requires head { 2 ≤ at }
     requires inside { at < n }

@@ -1,4 +1,13 @@
-//! Tokens.
+//! The tokens of a compute shader's program: its head, the extent of an instruction, and operands.
+//!
+//! A program is the data of the chunk `SHEX` as words of four bytes, the lowest first, as
+//! `d3d11TokenizedProgramFormat.hpp` describes them. `header` reads its first two words, `cut` the
+//! opcode's tokens of what begins at a place, and `operand` one operand in the role that the opcode
+//! gives it. Each answers the first rule that is broken, with its place, and takes no memory.
+//!
+//! The definitions that the contracts cite stand in `specs/`: `Opcodes` and `Declarations` are the
+//! tables, `Tokens` the fields, `Roles` what an operand may be, `Spelling` which words spell what,
+//! `Refusals` the rules with their places, and `Laws` what follows from both.
 #![tactic(auto)]
 
 mod argument;

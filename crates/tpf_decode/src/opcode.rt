@@ -4,7 +4,8 @@ ghost use Rattle.tpf_decode.specs.Opcodes.{form_of, roles_of, form_among};
 
 use crate::argument::Role;
 
-/// The operands that an instruction takes, a row of the opcode table.
+/// The operands that an instruction takes, a row of the opcode table. The opcodes are those of
+/// `D3D10_SB_OPCODE_TYPE` in `d3d11TokenizedProgramFormat.hpp`.
 #[derive(Clone, Copy, Debug, PartialEq, Eq)]
 pub enum Form {
     /// A destination and one source.

@@ -300,6 +300,11 @@ fn read_behind(
 
 /// Reads an operand in a role of an opcode, from a place to the instruction's end, and gives the place
 /// behind it. Places are words counted from the program's first.
+///
+/// # Errors
+///
+/// The first of K6 to K11, by place and then by number; K11 stands at the end, where a word is
+/// missing.
 pub fn operand(
     bytes: &[u8],
     at: u32,

@@ -11,8 +11,8 @@ use Rattle.tpf_program.specs.declared.declaration.SharedKind.TheVariants as shar
 use Rattle.tpf_program.specs.declared.declaration.Declaration.{Declaration}
 use Rattle.tpf_program.specs.declared.declaration.Declaration.TheVariants.{Flags, Constants, Resource, Uav, Shared, Input, Temps, Indexable, Group, ImmediateConstants}
 use Rattle.tpf_program.specs.declared.declaration.Declared.{Declared}
-use Rattle.tpf_program.specs.declared.instruction.Kind.{Kind}
-use Rattle.tpf_program.specs.declared.instruction.Kind.TheVariants.{ThreadId, GroupId, IdInGroup, FlatId}
+use Rattle.tpf_decode.specs.declared.argument.Kind.{Kind}
+use Rattle.tpf_decode.specs.declared.argument.Kind.TheVariants.{ThreadId, GroupId, IdInGroup, FlatId}
 use Rattle.tpf_program.specs.Program.{Shader}
 
 -- the thread ids that a `dcl_input` may name

@@ -8,13 +8,13 @@ use Rattle.word_base.specs.Registers.{Registers}
 use Rattle.word_base.specs.Settings.{Setting}
 use Rattle.tpf_program.specs.declared.declaration.Declaration.{Declaration}
 use Rattle.tpf_program.specs.declared.declaration.Declared.{Declared}
-use Rattle.tpf_program.specs.declared.instruction.Argument.{Argument}
+use Rattle.tpf_decode.specs.declared.argument.Argument.{Argument}
 use Rattle.tpf_program.specs.declared.instruction.Instruction.{Instruction}
-use Rattle.tpf_program.specs.declared.instruction.Kind.{Kind}
-use Rattle.tpf_program.specs.declared.instruction.Kind.TheVariants as kind
-use Rattle.tpf_program.specs.declared.instruction.Relative.{Relative}
-use Rattle.tpf_program.specs.declared.instruction.Select.{Select}
-use Rattle.tpf_program.specs.declared.instruction.Select.TheVariants.{Bare, Mask, Swizzle, One}
+use Rattle.tpf_decode.specs.declared.argument.Kind.{Kind}
+use Rattle.tpf_decode.specs.declared.argument.Kind.TheVariants as kind
+use Rattle.tpf_decode.specs.declared.argument.Relative.{Relative}
+use Rattle.tpf_decode.specs.declared.argument.Select.{Select}
+use Rattle.tpf_decode.specs.declared.argument.Select.TheVariants.{Bare, Mask, Swizzle, One}
 use Rattle.tpf_program.specs.Program.{Shader}
 use Rattle.tpf_program.specs.Spelling.{nothing}
 
@@ -25,9 +25,16 @@ slot_of kind slot select = record { kind = kind; select = select; negate = false
 -- an element of x1 at r0.x plus a number
 abbrev pub element : ℕ → ℕ → Argument
 element index component = record {
-  kind = kind.Indexable; select = One component; negate = false; slot = 1; index = index;
+  kind = kind.Indexable;
+  select = One component;
+  negate = false;
+  slot = 1;
+  index = index;
   relative = Some (record { kind = kind.Temp; slot = 0; index = 0; component = 0 });
-  x = 0; y = 0; z = 0; w = 0;
+  x = 0;
+  y = 0;
+  z = 0;
+  w = 0;
 }
 
 -- one word
@@ -43,7 +50,16 @@ r0_to mask = slot_of kind.Temp 0 (Mask mask)
 
 abbrev pub instruction : ℕ → ℕ → Argument → Argument → Argument → Argument → Instruction
 instruction code controls o0 o1 o2 o3 = record {
-  place = 0; length = 1; code = code; controls = controls; count = 5; o0 = o0; o1 = o1; o2 = o2; o3 = o3; o4 = nothing;
+  place = 0;
+  length = 1;
+  code = code;
+  controls = controls;
+  count = 5;
+  o0 = o0;
+  o1 = o1;
+  o2 = o2;
+  o3 = o3;
+  o4 = nothing;
 }
 
 abbrev pub bare : ℕ → Instruction
@@ -51,7 +67,10 @@ bare code = instruction code 0 nothing nothing nothing nothing
 
 abbrev pub program_of : List Declaration → List Instruction → Shader
 program_of declarations instructions = record {
-  words = 0; declarations = map (λ d. record { place = 0; what = d }) declarations; constants = 1 ∷ 2 ∷ 3 ∷ 4 ∷ []; instructions = instructions;
+  words = 0;
+  declarations = map (λ d. record { place = 0; what = d }) declarations;
+  constants = 1 ∷ 2 ∷ 3 ∷ 4 ∷ [];
+  instructions = instructions;
 }
 
 abbrev pub setting_of : Ids → (Room → ℕ) → Setting

@@ -6,8 +6,8 @@ use Rattle.word_base.specs.declared.event.Room.TheVariants.{Uav}
 use Rattle.tpf_program.specs.declared.declaration.Declaration.TheVariants as declaration
 use Rattle.tpf_program.specs.declared.declaration.ViewKind.TheVariants.{Raw}
 use Rattle.tpf_program.specs.declared.instruction.Instruction.{Instruction}
-use Rattle.tpf_program.specs.declared.instruction.Kind.TheVariants as kind
-use Rattle.tpf_program.specs.declared.instruction.Select.TheVariants.{Mask}
+use Rattle.tpf_decode.specs.declared.argument.Kind.TheVariants as kind
+use Rattle.tpf_decode.specs.declared.argument.Select.TheVariants.{Mask}
 use Rattle.tpf_program.specs.Program.{Shader}
 use Rattle.tpf_program.specs.Spelling.{nothing}
 use Rattle.tpf_program.specs.Opcodes.{meaning_but_return}
@@ -27,30 +27,30 @@ case_at n = instruction 6 0 (literal n) nothing nothing nothing
 
 abbrev pub turns : List Instruction
 turns =
-    instruction 54 0 (r0_to 3) (literal 0) nothing nothing ∷    -- mov r0.xy, l(0, 0, 0, 0)
-    bare 48 ∷                                                    -- loop
-    on_two 80 4 0 6 ∷                                            -- uge r0.z, r0.x, l(6)
-    where_not_zero 3 2 ∷                                         -- breakc_nz r0.z
-    on_two 30 1 0 1 ∷                                            -- iadd r0.x, r0.x, l(1)
-    on_two 32 4 0 2 ∷                                            -- ieq r0.z, r0.x, l(2)
-    where_not_zero 8 2 ∷                                         -- continuec_nz r0.z
-    instruction 76 0 (r0 0) nothing nothing nothing ∷            -- switch r0.x
-    case_at 1 ∷                                                  -- case l(1)
-    on_two 30 2 1 1 ∷                                            -- iadd r0.y, r0.y, l(1)
-    bare 10 ∷                                                    -- default
-    on_two 30 2 1 10 ∷                                           -- iadd r0.y, r0.y, l(10)
-    bare 2 ∷                                                     -- break
-    case_at 3 ∷                                                  -- case l(3)
-    on_two 30 2 1 100 ∷                                          -- iadd r0.y, r0.y, l(100)
-    case_at 4 ∷                                                  -- case l(4)
-    on_two 30 2 1 1000 ∷                                         -- iadd r0.y, r0.y, l(1000)
-    bare 2 ∷                                                     -- break
-    bare 23 ∷                                                    -- endswitch
-    instruction 166 0 (slot_of kind.Uav 0 (Mask 1)) (literal 0) (r0 1) nothing ∷    -- store_raw u0.x, l(0), r0.y
-    on_two 32 4 0 5 ∷                                            -- ieq r0.z, r0.x, l(5)
-    where_not_zero 63 2 ∷                                        -- retc_nz r0.z
-    bare 22 ∷                                                    -- endloop
-    bare 62 ∷ []                                                 -- ret
+    instruction 54 0 (r0_to 3) (literal 0) nothing nothing ∷  -- mov r0.xy, l(0, 0, 0, 0)
+    bare 48 ∷  -- loop
+    on_two 80 4 0 6 ∷  -- uge r0.z, r0.x, l(6)
+    where_not_zero 3 2 ∷  -- breakc_nz r0.z
+    on_two 30 1 0 1 ∷  -- iadd r0.x, r0.x, l(1)
+    on_two 32 4 0 2 ∷  -- ieq r0.z, r0.x, l(2)
+    where_not_zero 8 2 ∷  -- continuec_nz r0.z
+    instruction 76 0 (r0 0) nothing nothing nothing ∷  -- switch r0.x
+    case_at 1 ∷  -- case l(1)
+    on_two 30 2 1 1 ∷  -- iadd r0.y, r0.y, l(1)
+    bare 10 ∷  -- default
+    on_two 30 2 1 10 ∷  -- iadd r0.y, r0.y, l(10)
+    bare 2 ∷  -- break
+    case_at 3 ∷  -- case l(3)
+    on_two 30 2 1 100 ∷  -- iadd r0.y, r0.y, l(100)
+    case_at 4 ∷  -- case l(4)
+    on_two 30 2 1 1000 ∷  -- iadd r0.y, r0.y, l(1000)
+    bare 2 ∷  -- break
+    bare 23 ∷  -- endswitch
+    instruction 166 0 (slot_of kind.Uav 0 (Mask 1)) (literal 0) (r0 1) nothing ∷  -- store_raw u0.x, l(0), r0.y
+    on_two 32 4 0 5 ∷  -- ieq r0.z, r0.x, l(5)
+    where_not_zero 63 2 ∷  -- retc_nz r0.z
+    bare 22 ∷  -- endloop
+    bare 62 ∷ []  -- ret
 
 abbrev pub turning : Shader
 turning = program_of (declaration.Uav 0 Raw false false ∷ declaration.Temps 1 ∷ declaration.Group 1 1 1 ∷ []) turns

@@ -9,7 +9,7 @@ use Rattle.word_base.specs.declared.event.Event.TheVariants.{Load, Store, Atomic
 use Rattle.word_base.specs.declared.event.Room.TheVariants.{Counter}
 use Rattle.word_base.specs.declared.event.Scope.{Scope}
 use Rattle.word_base.specs.declared.event.Scope.TheVariants.{Device, Group}
-use Rattle.tpf_program.specs.declared.instruction.Argument.{Argument}
+use Rattle.tpf_decode.specs.declared.argument.Argument.{Argument}
 use Rattle.tpf_program.specs.declared.instruction.Instruction.{Instruction}
 use Rattle.tpf_program.specs.Opcodes.{Meaning, LoadRaw, LoadStructured, StoreRaw, StoreStructured, Acts, Compares, Fetches, Exchanges, Allocates, Consumes, Syncs}
 use Rattle.tpf_program.specs.Values.{Context, value, scalar, selected}

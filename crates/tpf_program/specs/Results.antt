@@ -4,7 +4,7 @@ use Rattle.std.specs.Prelude.{ℕ, ◌+◌, ◌*◌, ◌/◌, nat_eq, if◌then�
 use Rattle.word_base.specs.declared.arithmetic.Paired.{Paired}
 use Rattle.word_base.specs.Alu.{unary, binary, ternary, inserted_field, pair, Two as Words, difference}
 use Rattle.word_base.specs.Registers.{Registers}
-use Rattle.tpf_program.specs.declared.instruction.Argument.{Argument}
+use Rattle.tpf_decode.specs.declared.argument.Argument.{Argument}
 use Rattle.tpf_program.specs.declared.instruction.Instruction.{Instruction}
 use Rattle.tpf_program.specs.Opcodes.{Meaning, One, Two, Three, Inserts, Pair, Swaps, LoadRaw, LoadStructured, Measures, Fetches, Exchanges, Allocates, Consumes}
 use Rattle.tpf_program.specs.Sizes.{Addressing, Bytes, Structures}
@@ -25,7 +25,7 @@ pairs k op i =
 abbrev pub swaps : Context → Instruction → Registers
 swaps k i =
     writes_two k i.o0 (λ c. if nat_eq (value k i.o2 c) 0 then value k i.o3 c else value k i.o4 c)
-               i.o1 (λ c. if nat_eq (value k i.o2 c) 0 then value k i.o4 c else value k i.o3 c)
+    i.o1 (λ c. if nat_eq (value k i.o2 c) 0 then value k i.o4 c else value k i.o3 c)
 
 -- bufinfo: the bytes of a raw view; the structures of a structured view and their bytes
 abbrev pub measure_by : Addressing → ℕ → ℕ → ℕ

@@ -8,8 +8,8 @@ use Rattle.tpf_program.specs.declared.declaration.SharedKind.TheVariants as shar
 use Rattle.tpf_program.specs.declared.declaration.Declaration.{Declaration}
 use Rattle.tpf_program.specs.declared.declaration.Declaration.TheVariants.{Constants, Resource, Uav, Shared, Temps, Indexable}
 use Rattle.tpf_program.specs.declared.declaration.Declared.{Declared}
-use Rattle.tpf_program.specs.declared.instruction.Kind.{Kind}
-use Rattle.tpf_program.specs.declared.instruction.Kind.TheVariants as kind
+use Rattle.tpf_decode.specs.declared.argument.Kind.{Kind}
+use Rattle.tpf_decode.specs.declared.argument.Kind.TheVariants as kind
 
 -- the first number that is not 0 among those of the declarations
 abbrev pub first_size : (Declaration → ℕ) → List Declared → ℕ

@@ -5,10 +5,10 @@ use Rattle.word_base.specs.Words.{field_of}
 use Rattle.tpf_program.specs.declared.declaration.Declaration.{Declaration}
 use Rattle.tpf_program.specs.declared.declaration.Declaration.TheVariants.{Group}
 use Rattle.tpf_program.specs.declared.declaration.Declared.{Declared}
-use Rattle.tpf_program.specs.declared.instruction.Argument.{Argument}
+use Rattle.tpf_decode.specs.declared.argument.Argument.{Argument}
 use Rattle.tpf_program.specs.declared.instruction.Instruction.{Instruction}
-use Rattle.tpf_program.specs.declared.instruction.Kind.TheVariants.{Null}
-use Rattle.tpf_program.specs.declared.instruction.Select.TheVariants.{Bare}
+use Rattle.tpf_decode.specs.declared.argument.Kind.TheVariants.{Null}
+use Rattle.tpf_decode.specs.declared.argument.Select.TheVariants.{Bare}
 use Rattle.tpf_program.specs.Program.{Shader}
 
 -- The parts of an opcode token: the opcode, the control bits as they stand, the length in words, and whether an extended token follows.

@@ -5,12 +5,12 @@ use Rattle.word_base.specs.declared.event.Ids.{Ids}
 use Rattle.word_base.specs.Registers.{Registers}
 use Rattle.word_base.specs.Settings.{Setting}
 use Rattle.word_base.specs.Alu.{difference}
-use Rattle.tpf_program.specs.declared.instruction.Kind.{Kind}
-use Rattle.tpf_program.specs.declared.instruction.Kind.TheVariants as kind
-use Rattle.tpf_program.specs.declared.instruction.Select.{Select}
-use Rattle.tpf_program.specs.declared.instruction.Select.TheVariants.{Bare, Mask, Swizzle, One}
-use Rattle.tpf_program.specs.declared.instruction.Relative.{Relative}
-use Rattle.tpf_program.specs.declared.instruction.Argument.{Argument}
+use Rattle.tpf_decode.specs.declared.argument.Kind.{Kind}
+use Rattle.tpf_decode.specs.declared.argument.Kind.TheVariants as kind
+use Rattle.tpf_decode.specs.declared.argument.Select.{Select}
+use Rattle.tpf_decode.specs.declared.argument.Select.TheVariants.{Bare, Mask, Swizzle, One}
+use Rattle.tpf_decode.specs.declared.argument.Relative.{Relative}
+use Rattle.tpf_decode.specs.declared.argument.Argument.{Argument}
 use Rattle.tpf_program.specs.Program.{Shader}
 use Rattle.tpf_program.specs.Sizes.{temps_of, elements_of, vectors_of}
 

@@ -3,9 +3,9 @@
 use Rattle.std.specs.Prelude.{ℕ, ◌+◌, ◌*◌, ◌/◌, nat_lt, if◌then◌else◌, ◌&&◌, Option, Some, None}
 use Rattle.word_base.specs.declared.event.Room.{Room}
 use Rattle.word_base.specs.declared.event.Room.TheVariants as room
-use Rattle.tpf_program.specs.declared.instruction.Kind.{Kind}
-use Rattle.tpf_program.specs.declared.instruction.Kind.TheVariants as kind
-use Rattle.tpf_program.specs.declared.instruction.Argument.{Argument}
+use Rattle.tpf_decode.specs.declared.argument.Kind.{Kind}
+use Rattle.tpf_decode.specs.declared.argument.Kind.TheVariants as kind
+use Rattle.tpf_decode.specs.declared.argument.Argument.{Argument}
 use Rattle.tpf_program.specs.Sizes.{Addressing, Bytes, Structures, addressing_of}
 use Rattle.tpf_program.specs.Values.{Context, value, scalar}
 

@@ -1,11 +1,11 @@
 -- What instructions write. (Shader Model 5 assembly: destination operands and write masks.)
 use Rattle.std.specs.Prelude.{ℕ, ◌/◌, ◌%◌, ◌^◌, nat_eq, nat_lt, if◌then◌else◌, Bool, ◌&&◌, List, [], ◌∷◌, filter, map}
 use Rattle.word_base.specs.Registers.{Registers}
-use Rattle.tpf_program.specs.declared.instruction.Kind.{Kind}
-use Rattle.tpf_program.specs.declared.instruction.Kind.TheVariants as kind
-use Rattle.tpf_program.specs.declared.instruction.Select.{Select}
-use Rattle.tpf_program.specs.declared.instruction.Select.TheVariants.{Mask}
-use Rattle.tpf_program.specs.declared.instruction.Argument.{Argument}
+use Rattle.tpf_decode.specs.declared.argument.Kind.{Kind}
+use Rattle.tpf_decode.specs.declared.argument.Kind.TheVariants as kind
+use Rattle.tpf_decode.specs.declared.argument.Select.{Select}
+use Rattle.tpf_decode.specs.declared.argument.Select.TheVariants.{Mask}
+use Rattle.tpf_decode.specs.declared.argument.Argument.{Argument}
 use Rattle.tpf_program.specs.Sizes.{temps_of, elements_of}
 use Rattle.tpf_program.specs.Values.{Context, index_of}
 

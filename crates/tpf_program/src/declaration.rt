@@ -1,4 +1,4 @@
-use crate::instruction::{Kind, Select};
+use tpf_decode::{Kind, Select};
 
 /// How a view's words are addressed.
 #[derive(Clone, Copy, Debug, PartialEq, Eq)]

@@ -12,9 +12,10 @@ mod program;
 mod reader;
 
 pub use declaration::{Declaration, Declared, SharedKind, ViewKind};
-pub use instruction::{Argument, Instruction, Kind, Relative, Select};
+pub use instruction::Instruction;
 pub use program::Program;
 pub use reader::read;
+pub use tpf_decode::{Argument, Kind, Relative, Select};
 
 #[cfg(test)]
 mod tests;

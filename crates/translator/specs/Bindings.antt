@@ -3,11 +3,9 @@ use Rattle.std.specs.Prelude.{◌≡◌, ℕ, ◌+◌, ◌*◌, ◌<◌, ◌≤�
 use Rattle.std.specs.List.{filter_map}
 use Rattle.word_base.specs.declared.event.Room.TheVariants as room
 use Rattle.word_base.specs.Settings.{Setting}
-use Rattle.tpf_program.specs.declared.declaration.Declaration.{Declaration}
-use Rattle.tpf_program.specs.declared.declaration.Declaration.TheVariants.{Constants}
-use Rattle.tpf_program.specs.declared.declaration.Declared.{Declared}
 use Rattle.tpf_program.specs.Program.{Shader}
 use Rattle.tpf_program.specs.Extents.{shared_extent}
+use Rattle.tpf_program.specs.Sizes.{vectors_of}
 use Rattle.spirv_words.specs.Globals.{Places, RoomPlace, SlotPlace, PushPlace}
 
 -- what is bound: a constant buffer, a view, or the counter of a view
@@ -58,15 +56,6 @@ places_of p bindings = record {
   pushes = filter_map (λ b. push_at b.register b.place) bindings;
   shared = shared_slots p;
 }
-
--- the vectors that a program declares for a constant buffer, 0 for one that it does not declare
-abbrev pub vectors_declared : ℕ → Declaration → ℕ
-vectors_declared slot (Constants s size) = if nat_eq s slot then size else 0
-vectors_declared slot other = 0
-
-abbrev pub vectors_of : ℕ → List Declared → ℕ
-vectors_of slot [] = 0
-vectors_of slot (d ∷ rest) = if nat_eq (vectors_declared slot d.what) 0 then vectors_of slot rest else vectors_declared slot d.what
 
 -- The words that a dispatch gives for a declared constant buffer: four or more for each vector at a descriptor, exactly its push words
 -- in push constants.

@@ -1,4 +1,6 @@
-use crate::{Act, Binary, Paired, Ternary, Unary, alu_pair, alu1, alu2, alu3, bfi, new_word};
+use crate::{
+    Act, Binary, Paired, Ternary, Unary, alu_pair, alu1, alu2, alu3, bfi, field, new_word, word_at,
+};
 
 #[test]
 fn arithmetic_at_the_edges(rt: HostRuntime) {

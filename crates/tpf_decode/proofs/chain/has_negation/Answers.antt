@@ -1,9 +1,9 @@
-use Rattle.std.proofs.Common.{◌≡◌, ◌<◌, ◌+◌, ◌-◌, take, drop, true, false, ◌||◌, refl, sym, ap, ◌∙◌, arith}
+use Rattle.std.proofs.Common.{◌≡◌, ◌+◌, ◌-◌, take, drop, true, false, ◌||◌, sym, ap, ◌∙◌, arith}
 use Rattle.std.specs.Prelude.{slice_range}
 use Rattle.std.specs.List.{list_any}
 use Rattle.word_base.specs.Words.{words_of}
 use Rattle.tpf_decode.specs.Tokens.{is_negation}
-use Rattle.tpf_decode.proofs.Ranges.{range_none, range_cons}
+use Rattle.tpf_decode.proofs.Ranges.{range_cons}
 use Rattle.tpf_decode.proofs.chain.has_negation.Goals as goal
 
 pub returns-then-negates : goal.returns-then-negates

@@ -1,12 +1,12 @@
-use Rattle.std.proofs.Common.{◌≡◌, ◌≢◌, ◌<◌, ◌≤◌, ◌+◌, ◌-◌, ◌∷◌, ℕ, List, Bool, true, false, length, not, nat_eq, refl, sym, ap, ◌∙◌, subst, arith}
+use Rattle.std.proofs.Common.{◌≡◌, ◌<◌, ◌≤◌, ◌+◌, ◌∷◌, ℕ, List, true, false, length, not, nat_eq, sym, ap, ◌∙◌, arith}
 use Rattle.std.specs.Prelude.{slice_range, slice_index, if◌then◌else◌}
 use Rattle.std.proofs.lemmas.Bool.Decides.{nat_tests}
 use Rattle.word_base.specs.declared.rule.Rule.TheVariants.{K13}
-use Rattle.word_base.specs.Words.{words_of, field_of}
-use Rattle.word_base.specs.Rules.{first, refusal}
+use Rattle.word_base.specs.Words.{words_of}
+use Rattle.word_base.specs.Rules.{first}
 use Rattle.tpf_decode.specs.Profiles.{Base}
 use Rattle.tpf_decode.specs.Tokens.{opcode_of}
-use Rattle.tpf_decode.specs.Refusals.{refusal_of, cut_faults, broken, head_faults, is_custom, nothing}
+use Rattle.tpf_decode.specs.Refusals.{cut_faults, broken, head_faults, is_custom, nothing}
 use Rattle.tpf_decode.proofs.Ranges.{range_cons}
 use Rattle.tpf_decode.proofs.extent.cut.Goals as goal
 

@@ -1,7 +1,7 @@
-use Rattle.std.proofs.Common.{◌≡◌, ◌<◌, ◌+◌, ◌-◌, ◌*◌, Bool, true, false, not, refl, sym, ap, ◌∙◌, subst, arith}
+use Rattle.std.proofs.Common.{◌≡◌, ◌<◌, ◌+◌, ◌-◌, ◌*◌, true, false, not, refl, sym, ap, ◌∙◌, arith}
 use Rattle.std.specs.Prelude.{slice_range, slice_index}
 use Rattle.word_base.specs.declared.rule.Rule.TheVariants.{K13}
-use Rattle.word_base.specs.Words.{words_of, field_of}
+use Rattle.word_base.specs.Words.{words_of}
 use Rattle.word_base.specs.Rules.{first}
 use Rattle.tpf_decode.specs.Tokens.{class_of, opcode_of, controls_of}
 use Rattle.tpf_decode.specs.Refusals.{refusal_of, broken, is_custom, is_custom_size}

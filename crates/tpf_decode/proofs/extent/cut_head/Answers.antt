@@ -1,11 +1,11 @@
-use Rattle.std.proofs.Common.{◌≡◌, ◌<◌, ◌≤◌, ◌+◌, ◌-◌, ◌*◌, take, Option, Some, None, refl, sym, ap, ◌∙◌, subst, arith}
+use Rattle.std.proofs.Common.{◌≡◌, ◌+◌, ◌-◌, ◌*◌, take, None, sym, ap, ◌∙◌, subst}
 use Rattle.std.specs.Prelude.{slice_range, slice_index}
 use Rattle.std.proofs.lemmas.Result.{err_from_is_err_and}
-use Rattle.word_base.specs.Words.{words_of, field_of}
-use Rattle.word_base.specs.Rules.{first, refusal}
+use Rattle.word_base.specs.Words.{words_of}
+use Rattle.word_base.specs.Rules.{first}
 use Rattle.tpf_decode.specs.Profiles.{Base}
 use Rattle.tpf_decode.specs.declared.chain.Extended.TheVariants.{Opcode}
-use Rattle.tpf_decode.specs.Tokens.{follows, length_of, opcode_of, controls_of, has_flag}
+use Rattle.tpf_decode.specs.Tokens.{follows, length_of, opcode_of, controls_of}
 use Rattle.tpf_decode.specs.Spelling.{IsChain}
 use Rattle.tpf_decode.specs.Refusals.{refusal_of, nothing, first_rule, head_tests, chain_faults}
 use Rattle.tpf_decode.proofs.Order.{by_rule}

@@ -1,6 +1,6 @@
-use Rattle.std.proofs.Common.{◌≡◌, ◌<◌, ◌≤◌, ◌+◌, ◌-◌, ◌∷◌, [], Option, Some, None, Ok, true, false, length, refl, sym, ap, ◌∙◌, subst, arith}
-use Rattle.std.specs.Prelude.{slice_range, slice_index}
-use Rattle.std.specs.List.{list_all, list_any}
+use Rattle.std.proofs.Common.{◌≡◌, ◌<◌, ◌+◌, ◌∷◌, Some, Ok, true, sym, ap, ◌∙◌, subst, arith}
+use Rattle.std.specs.Prelude.{slice_range}
+use Rattle.std.specs.List.{list_all}
 use Rattle.std.proofs.lemmas.Result.{err_from_is_err_and}
 use Rattle.word_base.specs.Words.{words_of}
 use Rattle.word_base.specs.Rules.{first, refusal}
@@ -9,7 +9,7 @@ use Rattle.tpf_decode.specs.Profiles.{Base}
 use Rattle.tpf_decode.specs.Tokens.{follows, kind_of}
 use Rattle.tpf_decode.specs.Roles.{may_negate}
 use Rattle.tpf_decode.specs.Spelling.{IsChain}
-use Rattle.tpf_decode.specs.Refusals.{refusal_of, nothing, first_rule, token_tests, is_taken, chain_faults, behind_faults, operand_faults}
+use Rattle.tpf_decode.specs.Refusals.{refusal_of, nothing, is_taken, chain_faults, behind_faults}
 use Rattle.tpf_decode.proofs.Ranges.{range_split, range_cons}
 use Rattle.tpf_decode.proofs.Order.{by_rule}
 use Rattle.tpf_decode.proofs.Chains.{nothing_orderly}

@@ -1,12 +1,12 @@
-use Rattle.std.proofs.Common.{◌≡◌, ◌<◌, ◌≤◌, ◌+◌, ◌-◌, ◌∷◌, [], Option, Some, None, true, false, length, refl, sym, ap, ◌∙◌, subst, arith}
+use Rattle.std.proofs.Common.{◌≡◌, ◌<◌, ◌+◌, ◌-◌, Some, sym, ap, ◌∙◌, subst, arith}
 use Rattle.std.specs.Prelude.{slice_range}
 use Rattle.std.proofs.lemmas.Result.{err_from_is_err_and}
 use Rattle.word_base.specs.Words.{words_of}
 use Rattle.word_base.specs.Rules.{first}
 use Rattle.tpf_decode.specs.Tokens.{fixed_of, fixed_count, element_of}
 use Rattle.tpf_decode.specs.Spelling.{SpellsFixed, SpellsElement}
-use Rattle.tpf_decode.specs.Refusals.{refusal_of, nothing, behind_words, element_faults}
-use Rattle.tpf_decode.proofs.Ranges.{range_split, range_none}
+use Rattle.tpf_decode.specs.Refusals.{nothing, element_faults}
+use Rattle.tpf_decode.proofs.Ranges.{range_split}
 use Rattle.tpf_decode.proofs.Operands.{behind_missing, behind_place_there}
 use Rattle.tpf_decode.proofs.reading.read_behind.Goals as goal
 

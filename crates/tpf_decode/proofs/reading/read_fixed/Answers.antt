@@ -1,6 +1,5 @@
-use Rattle.std.proofs.Common.{◌≡◌, ◌<◌, ◌≤◌, ◌+◌, ◌-◌, ◌∷◌, [], true, false, length, refl, sym, ap, ◌∙◌, subst, arith}
-use Rattle.std.specs.Prelude.{slice_range, slice_index}
-use Rattle.word_base.specs.Words.{words_of, field_of}
+use Rattle.std.proofs.Common.{◌≡◌, ap}
+use Rattle.word_base.specs.Words.{words_of}
 use Rattle.std.proofs.Common.{⊎_elim}
 use Rattle.tpf_decode.specs.declared.argument.Kind.{Kind}
 use Rattle.tpf_decode.specs.declared.argument.Kind.TheVariants.{Temp, Indexable, Resource, Constant, Uav, Shared}

@@ -1,7 +1,6 @@
-use Rattle.std.proofs.Common.{◌≡◌, ◌<◌, ◌≤◌, ◌+◌, ◌-◌, ◌∷◌, [], true, false, length, refl, sym, ap, ◌∙◌, subst, arith}
-use Rattle.std.specs.Prelude.{slice_range, slice_index}
-use Rattle.word_base.specs.Words.{words_of, field_of}
-use Rattle.tpf_decode.proofs.Operands.{immediate_there, slot_there, two_there, four_there, literal_there}
+use Rattle.std.proofs.Common.{sym, ◌∙◌, arith}
+use Rattle.word_base.specs.Words.{words_of}
+use Rattle.tpf_decode.proofs.Operands.{immediate_there}
 use Rattle.tpf_decode.proofs.reading.read_immediate.Goals as goal
 
 pub returns-clause-spelled : goal.returns-clause-spelled

@@ -1,11 +1,11 @@
-use Rattle.std.proofs.Common.{◌≡◌, ◌<◌, ◌≤◌, ◌+◌, ◌-◌, ◌∷◌, [], Option, Some, None, true, false, length, refl, sym, ap, ◌∙◌, subst, arith}
+use Rattle.std.proofs.Common.{◌≡◌, Some, None, true, false, refl, sym, ap, ◌∙◌, subst, arith}
 use Rattle.std.specs.Prelude.{slice_range}
 use Rattle.std.proofs.lemmas.Result.{err_from_is_err_and}
 use Rattle.word_base.specs.Words.{words_of}
 use Rattle.word_base.specs.Rules.{first}
 use Rattle.tpf_decode.specs.Tokens.{has_relative, immediate_count}
 use Rattle.tpf_decode.specs.Spelling.{SpellsAddend}
-use Rattle.tpf_decode.specs.Refusals.{refusal_of, nothing, behind_words, relative_faults}
+use Rattle.tpf_decode.specs.Refusals.{nothing, relative_faults}
 use Rattle.tpf_decode.proofs.Ranges.{range_split, range_none}
 use Rattle.tpf_decode.proofs.Operands.{behind_missing, behind_place_there}
 use Rattle.tpf_decode.proofs.reading.read_index.Goals as goal

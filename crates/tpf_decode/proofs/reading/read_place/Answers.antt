@@ -1,6 +1,4 @@
-use Rattle.std.proofs.Common.{◌≡◌, ◌<◌, ◌≤◌, ◌+◌, ◌-◌, ◌∷◌, [], true, false, length, refl, sym, ap, ◌∙◌, subst, arith}
-use Rattle.std.specs.Prelude.{slice_range, slice_index}
-use Rattle.word_base.specs.Words.{words_of, field_of}
+use Rattle.word_base.specs.Words.{words_of}
 use Rattle.std.proofs.Common.{⊎_elim}
 use Rattle.tpf_decode.proofs.Operands.{temp_place, indexable_place, constant_place}
 use Rattle.tpf_decode.proofs.reading.read_place.Goals as goal

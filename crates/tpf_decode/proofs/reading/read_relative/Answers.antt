@@ -1,12 +1,11 @@
-use Rattle.std.proofs.Common.{◌≡◌, ◌<◌, ◌≤◌, ◌+◌, ◌-◌, ◌∷◌, [], Option, Some, None, true, false, length, refl, sym, ap, ◌∙◌, subst, arith}
-use Rattle.std.specs.Prelude.{slice_range, slice_index}
+use Rattle.std.proofs.Common.{◌≡◌, ◌<◌, ◌≤◌, ◌+◌, ◌-◌, ◌∷◌, Some, length, sym, ap, ◌∙◌, subst, arith}
+use Rattle.std.specs.Prelude.{slice_range}
 use Rattle.std.proofs.lemmas.Result.{err_from_is_err_and}
-use Rattle.word_base.specs.declared.rule.Rule.TheVariants.{K9, K11}
-use Rattle.word_base.specs.Words.{words_of, field_of}
-use Rattle.word_base.specs.Rules.{first, refusal}
+use Rattle.word_base.specs.Words.{words_of}
+use Rattle.word_base.specs.Rules.{first}
 use Rattle.tpf_decode.specs.Roles.{index_count}
 use Rattle.tpf_decode.specs.Spelling.{SpellsPlace}
-use Rattle.tpf_decode.specs.Refusals.{refusal_of, nothing, behind_words}
+use Rattle.tpf_decode.specs.Refusals.{refusal_of, nothing}
 use Rattle.tpf_decode.proofs.Ranges.{range_cons}
 use Rattle.tpf_decode.proofs.Chains.{nothing_orderly}
 use Rattle.tpf_decode.proofs.Operands.{behind_missing, behind_there, relative_some, relative_none, first_not_relative, relative_passes}
