@@ -1,5 +1,5 @@
 -- A row of places, each empty or holding a value, and the list of what the first of them hold.
-use Rattle.std.specs.Prelude.{◌≡◌, ℕ, zero, suc, List, [], ◌∷◌, length, get_or, Option, Some, None}
+use Rattle.std.specs.Prelude.{◌≡◌, ℕ, zero, suc, List, [], ◌∷◌, length, get_or, Option, Some, None, refl}
 
 module _ {X : Type 0} where
   -- the place at the index holds a value
@@ -16,3 +16,7 @@ module _ {X : Type 0} where
   -- each of the first n places holds a value
   abbrev pub IsStored : ℕ → List (Option X) → Type 0
   IsStored n places = length (stored n places) ≡ n
+
+-- two items in three places, and none of what lies behind them
+of_three_places : stored {X = ℕ} 2 (Some 5 ∷ Some 7 ∷ Some 9 ∷ []) ≡ 5 ∷ 7 ∷ []
+of_three_places = refl

@@ -71,7 +71,7 @@ pub(crate) fn take<T, A: Allocator>(
     }
 }
 
-/// Gives a region back, whatever its places hold.
+/// Gives a region of `count` places back. What they hold is forgotten, and not dropped.
 pub(crate) fn give_back<T, A: Allocator>(
     alloc: &A,
     start: Start<T>,
@@ -93,7 +93,7 @@ pub(crate) fn give_back<T, A: Allocator>(
 }
 
 impl<T> Region<T> {
-    /// Writes a value to the place `index`, whatever it held.
+    /// Writes a value to the place `index`. What the place held is forgotten, and not dropped.
     pub(crate) fn write(&mut self, start: Start<T>, index: usize, value: T)
         requires { (start.address ≡ self.old.first) × (index < length self.old.places) }
         ensures { (self.new.first ≡ self.old.first) × (self.new.places ≡ slice_set self.old.places index (Some value)) }
