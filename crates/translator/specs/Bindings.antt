@@ -1,11 +1,11 @@
 -- What a binding map is: which registers of a program are bound, and where.
-use Rattle.std.specs.Prelude.{◌≡◌, ℕ, ◌+◌, ◌*◌, ◌<◌, ◌≤◌, nat_eq, nat_lt, zero, suc, if◌then◌else◌, List, [], ◌∷◌, filter, length, Option, Some, None, slice_get}
+use Rattle.std.specs.Prelude.{◌≡◌, ℕ, ◌+◌, ◌*◌, ◌<◌, ◌≤◌, nat_lt, zero, suc, List, [], ◌∷◌, filter, length, Option, Some, None, slice_get}
 use Rattle.std.specs.List.{filter_map}
 use Rattle.word_base.specs.declared.event.Room.TheVariants as room
 use Rattle.word_base.specs.Settings.{Setting}
 use Rattle.tpf_program.specs.Program.{Shader}
-use Rattle.tpf_program.specs.Extents.{shared_extent}
 use Rattle.tpf_program.specs.Sizes.{vectors_of}
+use Rattle.tpf_program.specs.Extents.{shared_extent, FitsRooms}
 use Rattle.spirv_words.specs.Globals.{Places, RoomPlace, SlotPlace, PushPlace}
 
 -- what is bound: a constant buffer, a view, or the counter of a view
@@ -68,3 +68,8 @@ HoldsConstants p setting register place = Unit {0}
 pub record FitsConstants (p : Shader) (bindings : List Binding) (setting : Setting) : Type 0 where
   pub bound : (k : ℕ) (b : Binding) → slice_get bindings k ≡ Some b → HoldsConstants p setting b.register b.place
   pub undeclared : (slot : ℕ) → vectors_of slot p.declarations ≡ 0 → setting.constants slot ≡ []
+
+-- a setting that a dispatch may give to a lane of the program
+pub record Fits (p : Shader) (bindings : List Binding) (setting : Setting) : Type 0 where
+  pub rooms : FitsRooms p setting
+  pub constants : FitsConstants p bindings setting

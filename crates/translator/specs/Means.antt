@@ -6,18 +6,12 @@ use Rattle.word_base.specs.Settings.{Setting}
 use Rattle.dxbc_container.specs.Chunks.{IsShex}
 use Rattle.tpf_program.specs.Program.{Shader}
 use Rattle.tpf_program.specs.Spelling.{Spells}
-use Rattle.tpf_program.specs.Extents.{FitsRooms}
 use Rattle.tpf_program.specs.Bytecode as bytecode
 use Rattle.spirv_words.specs.Text.{Module, IsTextOf}
 use Rattle.spirv_words.specs.Lane as lane
 use Rattle.spirv_words.specs.Form.{Form}
-use Rattle.translator.specs.Bindings.{Binding, places_of, FitsConstants}
+use Rattle.translator.specs.Bindings.{Binding, places_of, Fits}
 use Rattle.translator.specs.Wanted.{group_of, wanted_of}
-
--- a setting that a dispatch may give to a lane of the program
-pub record Fits (p : Shader) (bindings : List Binding) (setting : Setting) : Type 0 where
-  pub rooms : FitsRooms p setting
-  pub constants : FitsConstants p bindings setting
 
 -- Under one setting the module's lane makes the events of the program's lane in the same order, ends where it ends, and is never wrong,
 -- whatever the answers are.

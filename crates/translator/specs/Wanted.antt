@@ -8,6 +8,7 @@ use Rattle.tpf_decode.specs.declared.argument.Kind.{Kind}
 use Rattle.tpf_decode.specs.declared.argument.Kind.TheVariants.{ThreadId, GroupId, IdInGroup, FlatId}
 use Rattle.tpf_program.specs.Declarations.{threads_in}
 use Rattle.tpf_program.specs.Extents.{is_resource, is_uav, steps_counter, shared_extent}
+use Rattle.tpf_program.specs.Sizes.{vectors_of}
 use Rattle.tpf_program.specs.Program.{Shader}
 use Rattle.tpf_program.specs.Sizes.{vectors_of}
 use Rattle.spirv_words.specs.Sections.{Group, sized}
