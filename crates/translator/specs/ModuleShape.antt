@@ -1,0 +1,97 @@
+-- The shape of a module: its OpLoopMerge, OpSwitch and event instructions in list order, in the same words as a program's. (SPIR-V
+-- specification, unified1, sections 2.11 and 3.52: a loop or switch reaches from its OpLoopMerge or OpSwitch to the label of its merge
+-- block.)
+use Rattle.std.specs.Prelude.{◌≡◌, ℕ, nat_eq, if◌then◌else◌, Bool, true, false, List, [], ◌∷◌, ◌++◌, position, Option, Some, None, slice_get, slice_index, option_map, option_and_then}
+use Rattle.std.specs.List.{list_any}
+use Rattle.word_base.specs.declared.event.Act.{Act}
+use Rattle.word_base.specs.declared.event.Act.TheVariants.{CompareExchange}
+use Rattle.word_base.specs.declared.event.Room.{Room}
+use Rattle.word_base.specs.declared.event.Room.TheVariants.{Shared}
+use Rattle.tpf_program.specs.Program.{Shader}
+use Rattle.spirv_words.specs.Operations.{Op, op_of, OpLabel, OpSwitch, OpLoopMerge, OpSelectionMerge, OpVariable, OpAccessChain, OpLoad, OpStore, OpAtomicCompareExchange, OpControlBarrier, OpMemoryBarrier}
+use Rattle.spirv_words.specs.Text.{Instr, Module}
+use Rattle.spirv_words.specs.Ids.{definition}
+use Rattle.spirv_words.specs.Globals.{Places, bound_room, decoration, workgroup_ids}
+use Rattle.spirv_words.specs.Memory.{act_of}
+use Rattle.translator.specs.Bindings.{Binding, places_of}
+use Rattle.translator.specs.Shape.{Item, OpensLoop, OpensSwitch, ClosesIt, Loads, Stores, Changes, Fences, Waits, program_shape}
+
+-- the merge labels of loops, and of switches: those of the OpSelectionMerge directly before an OpSwitch
+abbrev pub merge_by : Option Op → Option Op → ℕ → List ℕ
+merge_by (Some OpLoopMerge) next label = label ∷ []
+merge_by (Some OpSelectionMerge) (Some OpSwitch) label = label ∷ []
+merge_by op next label = []
+
+abbrev pub op_at : List Instr → Option Op
+op_at [] = None
+op_at (i ∷ rest) = op_of i.op
+
+abbrev pub merges_of : List Instr → List ℕ
+merges_of [] = []
+merges_of (i ∷ rest) = merge_by (op_of i.op) (op_at rest) (slice_index i.operands 0) ++ merges_of rest
+
+-- The room of a pointer: of the variable itself, or of the variable that its access chain begins with. Shared memory (class 4) and
+-- storage buffers (class 12) have one.
+abbrev pub variable_room : Module → Places → ℕ → ℕ → Option Room
+variable_room m places x class =
+    if nat_eq class 12 then bound_room places (decoration m.code x 34) (decoration m.code x 33) else
+    if nat_eq class 4 then option_map (λ s. Shared s) (option_and_then (slice_get places.shared) (position (nat_eq x) (workgroup_ids m.code))) else
+    None
+
+abbrev pub base_of : Option Op → List ℕ → ℕ → ℕ
+base_of (Some OpAccessChain) (t ∷ r ∷ base ∷ indices) x = base
+base_of op os x = x
+
+abbrev pub base_in : Option Instr → ℕ → ℕ
+base_in None x = x
+base_in (Some i) x = base_of (op_of i.op) i.operands x
+
+abbrev pub room_by : Module → Places → Option Op → List ℕ → Option Room
+room_by m places (Some OpVariable) (t ∷ r ∷ class ∷ rest) = variable_room m places r class
+room_by m places op os = None
+
+abbrev pub room_in : Module → Places → Option Instr → Option Room
+room_in m places None = None
+room_in m places (Some i) = room_by m places (op_of i.op) i.operands
+
+abbrev pub pointer_room : Module → Places → ℕ → Option Room
+pointer_room m places x = room_in m places (definition m.code (base_in (definition m.code x) x))
+
+abbrev pub item_for : (Room → Item) → Option Room → List Item
+item_for item None = []
+item_for item (Some room) = item room ∷ []
+
+-- the case values of an OpSwitch
+abbrev pub firsts : List ℕ → List ℕ
+firsts (value ∷ label ∷ rest) = value ∷ firsts rest
+firsts rest = []
+
+abbrev pub changes : Module → Places → Option Act → List ℕ → List Item
+changes m places (Some kind) (t ∷ r ∷ p ∷ rest) = item_for (λ room. Changes room kind) (pointer_room m places p)
+changes m places kind os = []
+
+abbrev pub items_by : Module → Places → Op → List ℕ → List Item
+items_by m places OpLoopMerge os = OpensLoop ∷ []
+items_by m places OpSwitch (x ∷ other ∷ cases) = OpensSwitch (firsts cases) ∷ []
+items_by m places OpLabel (l ∷ []) = if list_any (nat_eq l) (merges_of m.code) then ClosesIt ∷ [] else []
+items_by m places OpLoad (t ∷ r ∷ p ∷ rest) = item_for Loads (pointer_room m places p)
+items_by m places OpStore (p ∷ x ∷ rest) = item_for Stores (pointer_room m places p)
+items_by m places OpAtomicCompareExchange os = changes m places (Some CompareExchange) os
+items_by m places OpControlBarrier os = Waits ∷ []
+items_by m places OpMemoryBarrier os = Fences ∷ []
+items_by m places op os = changes m places (act_of op) os
+
+abbrev pub items_of_op : Module → Places → Option Op → List ℕ → List Item
+items_of_op m places None os = []
+items_of_op m places (Some op) os = items_by m places op os
+
+abbrev pub items_from : Module → Places → List Instr → List Item
+items_from m places [] = []
+items_from m places (i ∷ rest) = items_of_op m places (op_of i.op) i.operands ++ items_from m places rest
+
+abbrev pub module_shape : Module → Places → List Item
+module_shape m places = items_from m places m.code
+
+-- The module has the shape of the program.
+pub record HasShape (p : Shader) (bindings : List Binding) (m : Module) : Type 0 where
+  pub items : module_shape m (places_of p bindings) ≡ program_shape p bindings
