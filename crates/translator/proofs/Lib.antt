@@ -2,3 +2,5 @@ pub mod Ends
 pub mod Follows
 pub mod Threads
 pub mod Whole
+pub mod Computed
+pub mod Summed

@@ -1,0 +1,54 @@
+-- A run that is found by computation has its value.
+use Rattle.std.proofs.Common.{◌≡◌, ℕ, zero, suc, Bool, true, false, List, [], ◌∷◌, Option, Some, None, inl, inr, refl, sym, ap, ◌∙◌, subst, arith}
+use Rattle.word_base.specs.declared.event.Event.{Event}
+use Rattle.word_base.specs.Lanes.{Turn, Silent, Asks, Ends, Wrong, Goes, Meets}
+use Rattle.translator.specs.Runs.{Machine, TakesEvent, TakesEnd, Picked, HasValue, moved}
+use Rattle.translator.specs.RunExamples.{stop_of, next_in, Stand, stand, taken, picked, run_on, run_in}
+
+-- one silent step more
+further : {S : Type 0} (step : S → Turn S) (s to : S) (turn : Turn S) → step s ≡ Silent to → Meets step to turn → Meets step s turn
+further step s to turn e h = (suc h.0, (h.1.0, (to, e, h.1.1), h.1.2))
+
+by_turn : {S : Type 0} (step : S → Turn S) (n : ℕ) (s : S) (turn t : Turn S) → step s ≡ t
+    → ((to : S) → next_in n step to ≡ Some turn → Meets step to turn)
+    → stop_of t (next_in n step) ≡ Some turn → Meets step s turn
+by_turn step n s turn (Silent to) e ih h = further step s to turn e (ih to h)
+by_turn step n s turn (Asks event after) e ih h = (0, (s, refl, cc))
+by_turn step n s turn Ends e ih h = (0, (s, refl, cc))
+by_turn step n s turn (Wrong place rule) e ih h = absurd (cc)
+
+met : {S : Type 0} (step : S → Turn S) (n : ℕ) (s : S) (turn : Turn S) → next_in n step s ≡ Some turn → Meets step s turn
+met step zero s turn h = absurd (cc)
+met step (suc n) s turn h = by_turn step n s turn (step s) refl (λ to. met step n to turn) h
+
+by_stop : {C S : Type 0} (m : Machine C) (step : ℕ → S → Turn S) (s t : Stand C S) (lane : ℕ) (o : Option (Turn S))
+    → ((turn : Turn S) → o ≡ Some turn → Meets (step lane) (s.at lane) turn)
+    → taken m s lane o ≡ Some t → Picked false m step s.at s.shared lane t.at t.shared
+by_stop m step s t lane None k h = absurd (cc)
+by_stop m step s t lane (Some (Silent to)) k h = absurd (cc)
+by_stop m step s t lane (Some (Wrong place rule)) k h = absurd (cc)
+by_stop m step s t lane (Some Ends) k h =
+    let e : stand s.at (m.ended s.shared lane) ≡ t = cc in
+    inr (record { meets = k Ends refl; lanes = ap (λ x. x.at) (sym e); shared = ap (λ x. x.shared) (sym e) })
+by_stop m step s t lane (Some (Asks event after)) k h =
+    let e : stand (moved s.at lane (after (m.answer s.shared lane event))) (m.happens s.shared lane event) ≡ t = cc in
+    inl (record { event = event; after = after; meets = k (Asks event after) refl; lanes = ap (λ x. x.at) (sym e); shared = ap (λ x. x.shared) (sym e) })
+
+by_idle : {C S : Type 0} (m : Machine C) (bound : ℕ) (step : ℕ → S → Turn S) (s t : Stand C S) (lane : ℕ) (b : Bool)
+    → picked b m bound step s lane ≡ Some t → Picked b m step s.at s.shared lane t.at t.shared
+by_idle m bound step s t lane true h = let e : s ≡ t = cc in (ap (λ x. x.at) (sym e), ap (λ x. x.shared) (sym e))
+by_idle m bound step s t lane false h = by_stop m step s t lane (next_in bound (step lane) (s.at lane)) (λ turn. met (step lane) bound (s.at lane) turn) h
+
+by_pick : {C S : Type 0} (m : Machine C) (step : ℕ → S → Turn S) (s : Stand C S) (lane : ℕ) (picks : List ℕ) (value : C) (go : Stand C S → Option C) (o : Option (Stand C S))
+    → ((t : Stand C S) → o ≡ Some t → Picked (m.is_idle s.shared lane) m step s.at s.shared lane t.at t.shared)
+    → ((t : Stand C S) → go t ≡ Some value → HasValue m step t.at t.shared picks value)
+    → run_on go o ≡ Some value → HasValue m step s.at s.shared (lane ∷ picks) value
+by_pick m step s lane picks value go None k ih h = absurd (cc)
+by_pick m step s lane picks value go (Some t) k ih h = (t.at, t.shared, k t refl, ih t h)
+
+pub has_value : {C S : Type 0} (m : Machine C) (bound : ℕ) (step : ℕ → S → Turn S) (picks : List ℕ) (s : Stand C S) (value : C)
+    → run_in m bound step picks s ≡ Some value → HasValue m step s.at s.shared picks value
+has_value m bound step [] s value h = sym (cc)
+has_value m bound step (lane ∷ picks) s value h =
+    by_pick m step s lane picks value (run_in m bound step picks) (picked (m.is_idle s.shared lane) m bound step s lane)
+      (λ t. by_idle m bound step s t lane (m.is_idle s.shared lane)) (λ t. has_value m bound step picks t value) h
