@@ -51,4 +51,4 @@ pub has_value : {C S : Type 0} (m : Machine C) (bound : ℕ) (step : ℕ → S �
 has_value m bound step [] s value h = sym (cc)
 has_value m bound step (lane ∷ picks) s value h =
     by_pick m step s lane picks value (run_in m bound step picks) (picked (m.is_idle s.shared lane) m bound step s lane)
-      (λ t. by_idle m bound step s t lane (m.is_idle s.shared lane)) (λ t. has_value m bound step picks t value) h
+    (λ t. by_idle m bound step s t lane (m.is_idle s.shared lane)) (λ t. has_value m bound step picks t value) h

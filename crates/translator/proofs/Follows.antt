@@ -11,6 +11,7 @@ use Rattle.spirv_words.specs.Smallest.{smallest}
 use Rattle.spirv_words.specs.Lane as lane
 use Rattle.translator.specs.Bindings.{Binding, places_of}
 use Rattle.translator.specs.Means.{FollowsIn}
+use Rattle.translator.specs.ModuleShape.{HasShape}
 use Rattle.translator.proofs.Ends.{forward, never_wrong}
 
 left_ends : (p : Shader) (setting : Setting) (i : Instruction) → p.instructions ≡ i ∷ [] → IsTrue (returns i) → bytecode.step p setting bytecode.start ≡ Ends
@@ -26,3 +27,7 @@ follows x y z p bindings setting i h r =
     let left = left_ends p setting i h r in
     let right = right_ends x y z p bindings setting in
     record { forward = forward _ _ _ _ left right; never_wrong = never_wrong _ _ right }
+
+-- neither has a loop, a switch or an event
+pub shaped : (x y z : ℕ) (p : Shader) (bindings : List Binding) (i : Instruction) → p.instructions ≡ i ∷ [] → IsTrue (returns i) → HasShape p bindings (smallest 0x00010300 x y z)
+shaped x y z p bindings i h r = record { items = rw (h, r) refl }

@@ -44,10 +44,16 @@ extent_word lane (Shared slot) = short (nat_eq 0 slot) (0 ∷ []) (omega arith)
 
 ids : (lane : ℕ) → lane < 2 → AreIds (ids_of (threads_in summing.declarations) one_group lane)
 ids lane h = record {
-  group_x = omega arith; group_y = omega arith; group_z = omega arith;
-  x = omega arith; y = omega arith; z = omega arith;
+  group_x = omega arith;
+  group_y = omega arith;
+  group_z = omega arith;
+  x = omega arith;
+  y = omega arith;
+  z = omega arith;
   flat = omega arith;
-  thread_x = omega arith; thread_y = omega arith; thread_z = omega arith;
+  thread_x = omega arith;
+  thread_y = omega arith;
+  thread_z = omega arith;
 }
 
 no_words : AreWords []
@@ -106,6 +112,8 @@ found (Some value) h = (value, refl)
 pub has_run : (value : Shares) × ProgramRuns summing one_group in_turns value
 unfolding meaning_but_return
 has_run =
-    let v = found (run_of in_turns) refl in
-    (v.0, has_value (shared_machine (threads_in summing.declarations)) 8 (λ l. bytecode.step summing (setting_of summing one_group l)) in_turns
-      (stand (λ l. bytecode.start) (at_start one_group)) v.0 v.1)
+    let v = found (run_of in_turns) refl in (
+      v.0,
+      has_value (shared_machine (threads_in summing.declarations)) 8 (λ l. bytecode.step summing (setting_of summing one_group l)) in_turns
+          (stand (λ l. bytecode.start) (at_start one_group)) v.0 v.1,
+    )

@@ -27,7 +27,7 @@ use Rattle.translator.specs.Bindings.{Binding, numbers_from, shared_slots}
 use Rattle.translator.specs.Input.{IsBroken, SpellsNone}
 use Rattle.translator.specs.Means.{Means}
 use Rattle.translator.specs.Wanted.{wanted_of, group_of, input_of}
-use Rattle.translator.proofs.Follows.{follows}
+use Rattle.translator.proofs.Follows.{follows, shaped}
 
 -- A program of groups alone wants no variables.
 both : (a b : Bool) → IsTrue (a && b) → IsTrue a × IsTrue b
@@ -114,6 +114,7 @@ meant bytes content words p t form instructions chunk line threads whole =
       form =
           subst (λ w. Form 0x00010300 (group_of p) w (smallest 0x00010300 t.x t.y t.z)) (wants_nothing p line.declarations)
           (subst (λ (g : Threads). Form 0x00010300 (sized g.x g.y g.z) nothing_wanted (smallest 0x00010300 t.x t.y t.z)) threads (form 0x00010300 t.x t.y t.z refl));
+      shape = shaped t.x t.y t.z p [] one.0 one.1 one.2;
       follows = λ setting fits. follows t.x t.y t.z p [] setting one.0 one.1 one.2;
     }
 

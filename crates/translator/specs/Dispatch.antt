@@ -57,10 +57,16 @@ corner x y n = record { x = n % x; y = n / x % y; z = n / x / y }
 
 abbrev pub ids_at : Threads → Corner → Corner → ℕ → Ids
 ids_at t group thread flat = record {
-  group_x = group.x; group_y = group.y; group_z = group.z;
-  x = thread.x; y = thread.y; z = thread.z;
+  group_x = group.x;
+  group_y = group.y;
+  group_z = group.z;
+  x = thread.x;
+  y = thread.y;
+  z = thread.z;
   flat = flat;
-  thread_x = group.x * t.x + thread.x; thread_y = group.y * t.y + thread.y; thread_z = group.z * t.z + thread.z;
+  thread_x = group.x * t.x + thread.x;
+  thread_y = group.y * t.y + thread.y;
+  thread_z = group.z * t.z + thread.z;
 }
 
 abbrev pub ids_of : Threads → Dispatch → ℕ → Ids

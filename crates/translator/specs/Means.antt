@@ -11,6 +11,7 @@ use Rattle.spirv_words.specs.Text.{Module, IsTextOf}
 use Rattle.spirv_words.specs.Lane as lane
 use Rattle.spirv_words.specs.Form.{Form}
 use Rattle.translator.specs.Bindings.{Binding, places_of, Fits}
+use Rattle.translator.specs.ModuleShape.{HasShape}
 use Rattle.translator.specs.Wanted.{group_of, wanted_of}
 
 -- Under one setting the module's lane makes the events of the program's lane in the same order, ends where it ends, and is never wrong,
@@ -19,8 +20,8 @@ pub record FollowsIn (p : Shader) (bindings : List Binding) (m : Module) (settin
   pub forward : Forward (bytecode.step p setting) (lane.lane m (places_of p bindings) setting) bytecode.start (lane.start m (places_of p bindings) setting)
   pub never_wrong : NeverWrong (lane.lane m (places_of p bindings) setting) (lane.start m (places_of p bindings) setting)
 
--- The words are a module of that version, which has the form of one and does what the program does that the chunk `SHEX` of the bytes
--- spells, under the binding map.
+-- The words are a module of that version, which has the form of one, the shape of the program that the chunk `SHEX` of the bytes spells,
+-- and does what that program does, under the binding map.
 pub record Means (bytes : List ℕ) (bindings : List Binding) (version : ℕ) (words : List ℕ) : Type 0 where
   pub content : List ℕ
   pub program : Shader
@@ -29,4 +30,5 @@ pub record Means (bytes : List ℕ) (bindings : List Binding) (version : ℕ) (w
   pub spelled : Spells program (words_of content)
   pub text : IsTextOf target words
   pub form : Form version (group_of program) (wanted_of program bindings) target
+  pub shape : HasShape program bindings target
   pub follows : (setting : Setting) → Fits program bindings setting → FollowsIn program bindings target setting

@@ -10,10 +10,10 @@ use Rattle.word_base.specs.Lanes.{Turn, Silent, Asks, Ends, Wrong}
 use Rattle.tpf_program.specs.declared.declaration.Declaration.TheVariants as declaration
 use Rattle.tpf_program.specs.declared.declaration.SharedKind.TheVariants as shared
 use Rattle.tpf_program.specs.declared.declaration.ViewKind.TheVariants as view
-use Rattle.tpf_program.specs.declared.instruction.Argument.{Argument}
+use Rattle.tpf_decode.specs.declared.argument.Argument.{Argument}
 use Rattle.tpf_program.specs.declared.instruction.Instruction.{Instruction}
-use Rattle.tpf_program.specs.declared.instruction.Kind.TheVariants as kind
-use Rattle.tpf_program.specs.declared.instruction.Select.TheVariants.{Bare, Mask, Swizzle}
+use Rattle.tpf_decode.specs.declared.argument.Kind.TheVariants as kind
+use Rattle.tpf_decode.specs.declared.argument.Select.TheVariants.{Bare, Mask, Swizzle}
 use Rattle.tpf_program.specs.Bytecode as bytecode
 use Rattle.tpf_program.specs.Declarations.{threads_in}
 use Rattle.tpf_program.specs.Opcodes.{meaning_but_return}
@@ -64,17 +64,17 @@ flat = slot_of kind.FlatId 0 Bare
 
 abbrev pub sums : List Instruction
 sums =
-    instruction 173 0 (slot_of kind.Shared 0 Bare) (literal 0) flat nothing ∷                  -- atomic_iadd g0, l(0), vThreadIDInGroupFlattened
-    record (bare 190) { controls = 0x1800 } ∷                                                  -- sync_g_t
-    instruction 165 0 (r0_to 1) (literal 0) (slot_of kind.Shared 0 (Swizzle 0)) nothing ∷      -- ld_raw r0.x, l(0), g0.xxxx
-    instruction 41 0 (r0_to 2) flat (literal 2) nothing ∷                                      -- ishl r0.y, vThreadIDInGroupFlattened, l(2)
-    instruction 166 0 (slot_of kind.Uav 0 (Mask 1)) (r0 1) (r0 0) nothing ∷                    -- store_raw u0.x, r0.y, r0.x
-    bare 62 ∷ []                                                                               -- ret
+    instruction 173 0 (slot_of kind.Shared 0 Bare) (literal 0) flat nothing ∷  -- atomic_iadd g0, l(0), vThreadIDInGroupFlattened
+    record (bare 190) { controls = 0x1800 } ∷  -- sync_g_t
+    instruction 165 0 (r0_to 1) (literal 0) (slot_of kind.Shared 0 (Swizzle 0)) nothing ∷  -- ld_raw r0.x, l(0), g0.xxxx
+    instruction 41 0 (r0_to 2) flat (literal 2) nothing ∷  -- ishl r0.y, vThreadIDInGroupFlattened, l(2)
+    instruction 166 0 (slot_of kind.Uav 0 (Mask 1)) (r0 1) (r0 0) nothing ∷  -- store_raw u0.x, r0.y, r0.x
+    bare 62 ∷ []  -- ret
 
 abbrev pub summing : Shader
 summing = program_of
     (declaration.Uav 0 view.Raw false false ∷ declaration.Input kind.FlatId Bare ∷ declaration.Temps 1 ∷
-     declaration.Shared 0 (shared.Raw 4) ∷ declaration.Group 2 1 1 ∷ []) sums
+    declaration.Shared 0 (shared.Raw 4) ∷ declaration.Group 2 1 1 ∷ []) sums
 
 -- one group, u0 of two zero words and g0 of one
 abbrev pub where_zero : ℕ → List ℕ → List ℕ
@@ -90,7 +90,7 @@ one_group = record { x = 1; y = 1; z = 1; constants = λ slot. []; memory = reco
 abbrev pub run_of : List ℕ → Option Shares
 run_of picks =
     run_in (shared_machine (threads_in summing.declarations)) 8 (λ l. bytecode.step summing (setting_of summing one_group l)) picks
-      (stand (λ l. bytecode.start) (at_start one_group))
+    (stand (λ l. bytecode.start) (at_start one_group))
 
 -- the words of u0 behind a run
 abbrev pub written_by : Option Shares → Option (List ℕ)

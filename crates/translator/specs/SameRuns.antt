@@ -20,7 +20,7 @@ ProgramRuns p d picks value =
 abbrev pub ModuleRuns : Shader → List Binding → Module → Dispatch → List ℕ → Shares → Type 0
 ModuleRuns p bindings m d picks value =
     HasValue (shared_machine (threads_in p.declarations))
-      (λ l. lane.lane m (places_of p bindings) (setting_of p d l)) (λ l. lane.start m (places_of p bindings) (setting_of p d l)) (at_start d) picks value
+    (λ l. lane.lane m (places_of p bindings) (setting_of p d l)) (λ l. lane.start m (places_of p bindings) (setting_of p d l)) (at_start d) picks value
 
 -- For each dispatch and list of picks the two runs have the same values, so that one has a value exactly when the other has; and under
 -- no list of answers is a lane of the module wrong.

@@ -6,7 +6,7 @@ use Rattle.word_base.specs.declared.event.Act.{Act}
 use Rattle.word_base.specs.declared.event.Act.TheVariants as act
 use Rattle.word_base.specs.declared.event.Room.{Room}
 use Rattle.word_base.specs.declared.event.Room.TheVariants.{Counter, Shared}
-use Rattle.tpf_program.specs.declared.instruction.Argument.{Argument}
+use Rattle.tpf_decode.specs.declared.argument.Argument.{Argument}
 use Rattle.tpf_program.specs.declared.instruction.Instruction.{Instruction}
 use Rattle.tpf_program.specs.Opcodes.{Meaning, meaning_of, LoadRaw, LoadStructured, StoreRaw, StoreStructured, Acts, Compares, Fetches, Exchanges, Allocates, Consumes, Syncs, Loop, EndLoop, Switch, EndSwitch, Case}
 use Rattle.tpf_program.specs.Ends.{Part, Opens, Closes, Within, part_of}

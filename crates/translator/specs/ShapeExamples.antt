@@ -2,8 +2,8 @@
 use Rattle.std.specs.Prelude.{◌≡◌, ℕ, List, [], ◌∷◌, refl}
 use Rattle.word_base.specs.declared.event.Act.TheVariants.{Sub}
 use Rattle.word_base.specs.declared.event.Room.TheVariants as room
-use Rattle.tpf_program.specs.declared.instruction.Kind.TheVariants as kind
-use Rattle.tpf_program.specs.declared.instruction.Select.TheVariants.{Bare, Mask}
+use Rattle.tpf_decode.specs.declared.argument.Kind.TheVariants as kind
+use Rattle.tpf_decode.specs.declared.argument.Select.TheVariants.{Bare, Mask}
 use Rattle.tpf_program.specs.ExampleParts.{slot_of, literal, r0, r0_to, instruction, program_of}
 use Rattle.tpf_program.specs.FlowExamples.{turning}
 use Rattle.tpf_program.specs.Opcodes.{meaning_but_return}
