@@ -1,6 +1,6 @@
 -- A straight line that declares its group and returns has no other words.
-use Rattle.std.proofs.Common.{◌≡◌, ℕ, zero, suc, ◌+◌, ◌*◌, ◌/◌, ◌%◌, ◌<◌, ◌≤◌, ◌⊎◌, inl, inr, ⊎_elim, List, [], ◌∷◌, ◌++◌, length, Bool, true, false, refl, sym, ap, ◌∙◌, subst, arith, length-append}
-use Rattle.std.specs.Prelude.{IsTrue, if◌then◌else◌, nat_eq, nat_lt, not, ◌&&◌, ◌||◌, cond}
+use Rattle.std.proofs.Common.{◌≡◌, ℕ, ◌+◌, ◌/◌, ◌%◌, ◌<◌, List, [], ◌∷◌, ◌++◌, length, Bool, true, false, refl, sym, ap, ◌∙◌, subst, arith, length-append}
+use Rattle.std.specs.Prelude.{IsTrue, nat_lt, not, ◌&&◌, ◌||◌}
 use Rattle.std.specs.List.{list_any, list_all}
 use Rattle.std.proofs.lemmas.Bool.Decides.{nat_tests}
 use Rattle.word_base.specs.Words.{words_of}
@@ -12,8 +12,8 @@ use Rattle.tpf_program.specs.declared.declaration.Declaration.TheVariants.{Flags
 use Rattle.tpf_program.specs.declared.declaration.Declared.{Declared}
 use Rattle.tpf_program.specs.declared.instruction.Instruction.{Instruction}
 use Rattle.tpf_program.specs.Program.{Shader}
-use Rattle.tpf_program.specs.Spelling.{IsToken, Item, Declares, Does, SpellsDeclaration, SpellsInstruction, SpellsItem, SpellsItems, SpellsOperands, HasNoOperands, Spells, declarations_in, instructions_in}
-use Rattle.tpf_program.specs.Declarations.{is_group, refusals_at, refusals_from, declaration_refusals, declares_group, has_sizes, is_past_limit, same_thing}
+use Rattle.tpf_program.specs.Spelling.{IsToken, Item, Declares, Does, SpellsDeclaration, SpellsInstruction, SpellsItems, HasNoOperands, declarations_in, instructions_in}
+use Rattle.tpf_program.specs.Declarations.{is_group, refusals_at, refusals_from, declares_group, has_sizes, is_past_limit, same_thing}
 use Rattle.tpf_program.specs.StraightLine.{is_built, returns, is_built_code, ReturnsAtEnd, IsStraightLine, IsOutside, ReturnsAtOnce}
 use Rattle.tpf_program.proofs.Shortest.{nothing_joined, not_broken}
 

@@ -1,20 +1,15 @@
 -- The words that declare a thread group and return are the straight lines.
-use Rattle.std.proofs.Common.{◌≡◌, ℕ, zero, suc, ◌+◌, ◌*◌, ◌/◌, ◌%◌, ◌<◌, ◌≤◌, ◌^◌, ◌⊎◌, inl, inr, ⊎_elim, List, [], ◌∷◌, ◌++◌, length, Bool, true, false, Option, Some, None, refl, sym, ap, ◌∙◌, subst, arith}
-use Rattle.std.specs.Prelude.{slice_index, IsTrue, if◌then◌else◌, nat_eq, nat_lt, nat_le, not, ◌&&◌, ◌||◌, cond}
-use Rattle.std.specs.List.{list_any, list_all}
-use Rattle.std.proofs.lemmas.Bool.Decides.{nat_tests}
-use Rattle.word_base.specs.Words.{word_at, words_of, field_of}
+use Rattle.std.proofs.Common.{◌≡◌, ℕ, ◌+◌, ◌*◌, ◌/◌, ◌≤◌, List, [], ◌∷◌, ◌++◌, length, Bool, true, false, refl, sym, ◌∙◌, subst, arith}
+use Rattle.std.specs.Prelude.{slice_index, IsTrue, if◌then◌else◌}
+use Rattle.word_base.specs.Words.{word_at, words_of}
 use Rattle.word_base.specs.declared.rule.Refusal.{Refusal}
-use Rattle.word_base.specs.declared.rule.Rule.TheVariants.{L1, L2, L3, L4, L7}
-use Rattle.word_base.specs.Rules.{broken}
-use Rattle.tpf_program.specs.declared.declaration.Declaration.{Declaration}
-use Rattle.tpf_program.specs.declared.declaration.Declaration.TheVariants.{Flags, Constants, Resource, Uav, Shared, Input, Temps, Indexable, Group, ImmediateConstants}
+use Rattle.tpf_program.specs.declared.declaration.Declaration.TheVariants.{Group}
 use Rattle.tpf_program.specs.declared.declaration.Declared.{Declared}
 use Rattle.tpf_program.specs.declared.instruction.Instruction.{Instruction}
 use Rattle.tpf_program.specs.Program.{Shader}
-use Rattle.tpf_program.specs.Spelling.{IsToken, controls_of, HasNoOperands, Item, Declares, Does, SpellsInstruction, SpellsItems, SpellsOperands, Spells, declarations_in, instructions_in}
-use Rattle.tpf_program.specs.Declarations.{is_group, refusals_at, refusals_from, declaration_refusals, declares_group, is_within, is_past_limit, same_thing}
-use Rattle.tpf_program.specs.StraightLine.{is_built, returns, is_built_code, ReturnsAtEnd, IsStraightLine, ReturnsAtOnce, IsReturn}
+use Rattle.tpf_program.specs.Spelling.{IsToken, Declares, Does, SpellsInstruction, SpellsOperands, Spells}
+use Rattle.tpf_program.specs.Declarations.{is_group}
+use Rattle.tpf_program.specs.StraightLine.{IsStraightLine, ReturnsAtOnce, IsReturn}
 
 -- a list of seven words
 pub seven : (ws : List ℕ) → length ws ≡ 7

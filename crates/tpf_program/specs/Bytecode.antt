@@ -1,5 +1,5 @@
 -- A lane of a program. (Shader Model 5 assembly: the instructions and their order.)
-use Rattle.std.specs.Prelude.{ℕ, ◌+◌, nat_eq, not, if◌then◌else◌, Bool, true, false, List, [], ◌∷◌, ◌++◌, length, Option, Some, None, slice_get}
+use Rattle.std.specs.Prelude.{ℕ, ◌+◌, nat_eq, not, if◌then◌else◌, Bool, List, [], ◌∷◌, ◌++◌, length, Option, Some, None, slice_get}
 use Rattle.word_base.specs.declared.event.Event.{Event}
 use Rattle.word_base.specs.Lanes.{Turn, Silent, Asks, Ends}
 use Rattle.word_base.specs.Registers.{Registers, zeros}

@@ -1,5 +1,5 @@
 -- The rules on declarations. (Direct3D 11 functional specification: the limits of compute shaders and of registers.)
-use Rattle.std.specs.Prelude.{ℕ, ◌+◌, ◌*◌, ◌/◌, ◌%◌, nat_eq, nat_lt, nat_le, not, ◌&&◌, ◌||◌, Bool, true, false, List, [], ◌∷◌, ◌++◌, sum_by}
+use Rattle.std.specs.Prelude.{ℕ, ◌+◌, ◌*◌, ◌%◌, nat_eq, nat_lt, nat_le, not, ◌&&◌, ◌||◌, Bool, true, false, List, [], ◌∷◌, ◌++◌, sum_by}
 use Rattle.std.specs.List.{list_any}
 use Rattle.word_base.specs.declared.rule.Refusal.{Refusal}
 use Rattle.word_base.specs.declared.rule.Rule.TheVariants.{L1, L2, L3, L4, L7}

@@ -1,5 +1,5 @@
 -- Which ends match, by counting on the flat list. (Shader Model 5 assembly: if, loop and switch with their ends, else, case, default.)
-use Rattle.std.specs.Prelude.{ℕ, zero, suc, ◌+◌, nat_eq, nat_le, if◌then◌else◌, Bool, true, false, ◌&&◌, ◌||◌, List, [], ◌∷◌, drop, Option, Some, None, slice_get, option_and_then}
+use Rattle.std.specs.Prelude.{ℕ, zero, suc, ◌+◌, nat_eq, nat_le, if◌then◌else◌, Bool, true, false, ◌&&◌, List, [], ◌∷◌, drop, Option, Some, None, slice_get, option_and_then}
 use Rattle.tpf_program.specs.declared.instruction.Instruction.{Instruction}
 use Rattle.tpf_program.specs.Opcodes.{Meaning, meaning_of, If, Else, EndIf, Loop, EndLoop, Switch, Case, Default, EndSwitch}
 

@@ -1,20 +1,17 @@
 -- Operands, instructions and programs, for the examples.
-use Rattle.std.specs.Prelude.{ℕ, zero, suc, true, false, List, [], ◌∷◌, Option, Some, None, map}
+use Rattle.std.specs.Prelude.{ℕ, zero, suc, false, List, [], ◌∷◌, Some, None, map}
 use Rattle.word_base.specs.declared.event.Event.{Event}
 use Rattle.word_base.specs.declared.event.Ids.{Ids}
 use Rattle.word_base.specs.declared.event.Room.{Room}
 use Rattle.word_base.specs.Lanes.{Turn, Silent, Asks, Ends, Wrong}
-use Rattle.word_base.specs.Registers.{Registers}
 use Rattle.word_base.specs.Settings.{Setting}
 use Rattle.tpf_program.specs.declared.declaration.Declaration.{Declaration}
-use Rattle.tpf_program.specs.declared.declaration.Declared.{Declared}
-use Rattle.tpf_decode.specs.declared.argument.Argument.{Argument}
+use Rattle.tpf_program.specs.declared.instruction.Argument.{Argument}
 use Rattle.tpf_program.specs.declared.instruction.Instruction.{Instruction}
-use Rattle.tpf_decode.specs.declared.argument.Kind.{Kind}
-use Rattle.tpf_decode.specs.declared.argument.Kind.TheVariants as kind
-use Rattle.tpf_decode.specs.declared.argument.Relative.{Relative}
-use Rattle.tpf_decode.specs.declared.argument.Select.{Select}
-use Rattle.tpf_decode.specs.declared.argument.Select.TheVariants.{Bare, Mask, Swizzle, One}
+use Rattle.tpf_program.specs.declared.instruction.Kind.{Kind}
+use Rattle.tpf_program.specs.declared.instruction.Kind.TheVariants as kind
+use Rattle.tpf_program.specs.declared.instruction.Select.{Select}
+use Rattle.tpf_program.specs.declared.instruction.Select.TheVariants.{Bare, Mask, One}
 use Rattle.tpf_program.specs.Program.{Shader}
 use Rattle.tpf_program.specs.Spelling.{nothing}
 

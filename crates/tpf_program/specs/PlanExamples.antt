@@ -1,5 +1,5 @@
 -- Plans and results of instructions on views.
-use Rattle.std.specs.Prelude.{◌≡◌, ℕ, true, false, List, [], ◌∷◌, Option, Some, None, refl}
+use Rattle.std.specs.Prelude.{◌≡◌, ℕ, true, false, List, [], ◌∷◌, refl}
 use Rattle.word_base.specs.declared.event.Act.TheVariants.{Add, Sub}
 use Rattle.word_base.specs.declared.event.Event.{Event}
 use Rattle.word_base.specs.declared.event.Event.TheVariants.{Load, Store, Atomic, Fence, Barrier}
@@ -8,13 +8,12 @@ use Rattle.word_base.specs.declared.event.Room.{Room}
 use Rattle.word_base.specs.declared.event.Room.TheVariants.{Resource, Uav, Counter}
 use Rattle.word_base.specs.declared.event.Scope.TheVariants.{Device, Group}
 use Rattle.word_base.specs.Registers.{Registers, zeros}
-use Rattle.word_base.specs.Settings.{Setting}
 use Rattle.tpf_program.specs.declared.declaration.Declaration.TheVariants as declaration
 use Rattle.tpf_program.specs.declared.declaration.ViewKind.TheVariants.{Raw, Structured}
-use Rattle.tpf_decode.specs.declared.argument.Argument.{Argument}
+use Rattle.tpf_program.specs.declared.instruction.Argument.{Argument}
 use Rattle.tpf_program.specs.declared.instruction.Instruction.{Instruction}
-use Rattle.tpf_decode.specs.declared.argument.Kind.TheVariants as kind
-use Rattle.tpf_decode.specs.declared.argument.Select.TheVariants.{Bare, Mask, Swizzle, One}
+use Rattle.tpf_program.specs.declared.instruction.Kind.TheVariants as kind
+use Rattle.tpf_program.specs.declared.instruction.Select.TheVariants.{Bare, Mask, Swizzle}
 use Rattle.tpf_program.specs.Program.{Shader}
 use Rattle.tpf_program.specs.Spelling.{nothing}
 use Rattle.tpf_program.specs.Opcodes.{meaning_but_return}

@@ -1,6 +1,6 @@
 -- The events of an instruction. Each of its parts is an event or none: a component of a load or a store, an atomic, a step of a
 -- counter, a fence. All is read at the instruction's start. (Shader Model 5 assembly: the instructions on views, and sync.)
-use Rattle.std.specs.Prelude.{ℕ, nat_lt, if◌then◌else◌, Bool, true, false, ◌||◌, List, [], ◌∷◌, map, Option, Some, None, option_map}
+use Rattle.std.specs.Prelude.{ℕ, nat_lt, if◌then◌else◌, Bool, ◌||◌, List, [], ◌∷◌, map, Option, Some, None, option_map}
 use Rattle.word_base.specs.declared.event.Act.{Act}
 use Rattle.word_base.specs.declared.event.Act.TheVariants as act
 use Rattle.word_base.specs.declared.event.Classes.{Classes}

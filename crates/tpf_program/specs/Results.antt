@@ -1,8 +1,8 @@
 -- The registers that an instruction leaves, from those at its start and the words of its parts. (Shader Model 5 assembly: each
 -- instruction.)
-use Rattle.std.specs.Prelude.{ℕ, ◌+◌, ◌*◌, ◌/◌, nat_eq, if◌then◌else◌, List, [], ◌∷◌, slice_index}
+use Rattle.std.specs.Prelude.{ℕ, ◌*◌, ◌/◌, nat_eq, if◌then◌else◌, List, slice_index}
 use Rattle.word_base.specs.declared.arithmetic.Paired.{Paired}
-use Rattle.word_base.specs.Alu.{unary, binary, ternary, inserted_field, pair, Two as Words, difference}
+use Rattle.word_base.specs.Alu.{unary, binary, ternary, inserted_field, pair, difference}
 use Rattle.word_base.specs.Registers.{Registers}
 use Rattle.tpf_decode.specs.declared.argument.Argument.{Argument}
 use Rattle.tpf_program.specs.declared.instruction.Instruction.{Instruction}

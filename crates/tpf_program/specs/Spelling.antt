@@ -1,5 +1,5 @@
 -- The words that spell a program. (d3d11TokenizedProgramFormat.hpp: the version token, the length token, and the opcode tokens.)
-use Rattle.std.specs.Prelude.{◌≡◌, ℕ, ◌+◌, ◌*◌, ◌<◌, nat_eq, false, List, [], ◌∷◌, ◌++◌, length, Option, None}
+use Rattle.std.specs.Prelude.{◌≡◌, ℕ, ◌+◌, ◌*◌, nat_eq, false, List, [], ◌∷◌, ◌++◌, length, None}
 use Rattle.std.specs.Bool.{MatchBool}
 use Rattle.word_base.specs.Words.{field_of}
 use Rattle.tpf_program.specs.declared.declaration.Declaration.{Declaration}

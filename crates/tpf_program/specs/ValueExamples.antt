@@ -1,18 +1,17 @@
 -- Operands at and past their ends, and what is written.
-use Rattle.std.specs.Prelude.{◌≡◌, ℕ, nat_eq, if◌then◌else◌, ◌&&◌, true, false, List, [], ◌∷◌, Option, Some, None, refl}
+use Rattle.std.specs.Prelude.{◌≡◌, ℕ, true, [], ◌∷◌, refl}
 use Rattle.word_base.specs.declared.event.Ids.{Ids}
 use Rattle.word_base.specs.Registers.{Registers, zeros}
 use Rattle.tpf_program.specs.declared.declaration.Declaration.TheVariants as declaration
-use Rattle.tpf_decode.specs.declared.argument.Argument.{Argument}
-use Rattle.tpf_program.specs.declared.instruction.Instruction.{Instruction}
-use Rattle.tpf_decode.specs.declared.argument.Kind.TheVariants as kind
-use Rattle.tpf_decode.specs.declared.argument.Select.TheVariants.{Mask, Swizzle, One}
+use Rattle.tpf_program.specs.declared.instruction.Argument.{Argument}
+use Rattle.tpf_program.specs.declared.instruction.Kind.TheVariants as kind
+use Rattle.tpf_program.specs.declared.instruction.Select.TheVariants.{Mask, Swizzle, One}
 use Rattle.tpf_program.specs.Program.{Shader}
 use Rattle.tpf_program.specs.Spelling.{nothing}
 use Rattle.tpf_program.specs.Opcodes.{meaning_but_return}
 use Rattle.tpf_program.specs.Values.{Context, context, value}
 use Rattle.tpf_program.specs.Writes.{written, target, InElement, Nowhere, with_temp, with_element}
-use Rattle.tpf_program.specs.Bytecode.{plan, result}
+use Rattle.tpf_program.specs.Bytecode.{result}
 use Rattle.tpf_program.specs.ExampleParts.{slot_of, element, literal, r0, r0_to, instruction, program_of, setting_of}
 
 -- one register r0, three elements of x1, two vectors of cb0, of which the first two words are given: 5 and 6

@@ -1,7 +1,6 @@
 -- What operands stand for. (Shader Model 5 assembly: operand types, swizzles, masks and modifiers; Direct3D 11 functional
 -- specification: reads past the end of indexed registers and constant buffers.)
 use Rattle.std.specs.Prelude.{ℕ, ◌+◌, ◌*◌, ◌/◌, ◌%◌, ◌^◌, nat_eq, nat_lt, if◌then◌else◌, Option, Some, None, slice_index}
-use Rattle.word_base.specs.declared.event.Ids.{Ids}
 use Rattle.word_base.specs.Registers.{Registers}
 use Rattle.word_base.specs.Settings.{Setting}
 use Rattle.word_base.specs.Alu.{difference}

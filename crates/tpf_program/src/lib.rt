@@ -3,7 +3,10 @@
 //!
 //! The definitions stand in `specs/`: `Program` for a program as contracts see it, `Spelling` for the
 //! words that spell it, `Declarations` for the rules on declarations, `StraightLine` for the form that
-//! is read, `Bytecode` for a lane of a program, and `Extents` for the settings that fit it.
+//! is read, and `Extents` for the settings that fit it. What a lane of it does: `Opcodes` says what
+//! each opcode means, `Sizes` what is declared, `Values` what operands stand for, `Writes` what is
+//! written, `Views` and `Plans` which events an instruction makes, `Results` what it leaves, `Ends`
+//! which ends match, and `Bytecode` one step of the lane.
 #![tactic(auto)]
 
 mod declaration;

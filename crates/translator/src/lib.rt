@@ -3,7 +3,8 @@
 //!
 //! The definitions stand in `specs/`: `Means` says what a module owes to the program that it was
 //! translated from, `Bindings` what a binding map is, `Wanted` which variables a module has for them,
-//! `Input` which rules are broken.
+//! `Input` which rules are broken. `Runs`, `Dispatch` and `SameRuns` say what whole dispatches do on both
+//! sides, `Shape` and `ModuleShape` which loops, switches and events each side has.
 #![tactic(auto)]
 
 mod emitter;

@@ -1,5 +1,4 @@
-use Rattle.std.proofs.Common.{ℕ, ◌≡◌, [], ◌∷◌, ◌∙◌, sym, ap, subst, refl, rules}
-use Rattle.tpf_program.specs.StraightLine.{IsReturn}
+use Rattle.std.proofs.Common.{refl, rules}
 use Rattle.tpf_program.proofs.Shortest.{is_read, reads_back, straight_bytes}
 use Rattle.tpf_program.proofs.reader.shortest.Goals as goal
 
