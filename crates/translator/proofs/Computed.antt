@@ -1,8 +1,7 @@
 -- A run that is found by computation has its value.
-use Rattle.std.proofs.Common.{◌≡◌, ℕ, zero, suc, Bool, true, false, List, [], ◌∷◌, Option, Some, None, inl, inr, refl, sym, ap, ◌∙◌, subst, arith}
-use Rattle.word_base.specs.declared.event.Event.{Event}
-use Rattle.word_base.specs.Lanes.{Turn, Silent, Asks, Ends, Wrong, Goes, Meets}
-use Rattle.translator.specs.Runs.{Machine, TakesEvent, TakesEnd, Picked, HasValue, moved}
+use Rattle.std.proofs.Common.{◌≡◌, ℕ, zero, suc, Bool, true, false, List, [], ◌∷◌, Option, Some, None, inl, inr, refl, sym, ap}
+use Rattle.word_base.specs.Lanes.{Turn, Silent, Asks, Ends, Wrong, Meets}
+use Rattle.translator.specs.Runs.{Machine, Picked, HasValue, moved}
 use Rattle.translator.specs.RunExamples.{stop_of, next_in, Stand, stand, taken, picked, run_on, run_in}
 
 -- one silent step more

@@ -1,7 +1,7 @@
 -- Two lanes that end at once.
-use Rattle.std.proofs.Common.{◌≡◌, ℕ, zero, suc, List, [], ◌∷◌, refl, sym, ap, ◌∙◌, subst}
+use Rattle.std.proofs.Common.{◌≡◌, ℕ, zero, suc, List, [], ◌∷◌, refl, sym, ap, ◌∙◌}
 use Rattle.word_base.specs.declared.event.Event.{Event}
-use Rattle.word_base.specs.Lanes.{Turn, Silent, Asks, Ends, Wrong, Goes, Meets, Makes, Forward, NeverWrong}
+use Rattle.word_base.specs.Lanes.{Turn, Asks, Ends, Wrong, Goes, Meets, Makes, Forward, NeverWrong}
 
 -- at the end nothing else is met
 met_by : {S : Type 0} (step : S → Turn S) (s : S) (turn : Turn S) → step s ≡ Ends → (n : ℕ) (t : S) → Goes step n s t → step t ≡ turn → turn ≡ Ends

@@ -1,6 +1,6 @@
 -- The smallest module follows the shortest program.
-use Rattle.std.proofs.Common.{◌≡◌, ℕ, List, [], ◌∷◌, ◌++◌, Some, refl, sym, ap, ◌∙◌, subst}
-use Rattle.std.specs.Prelude.{IsTrue, nat_eq}
+use Rattle.std.proofs.Common.{◌≡◌, ℕ, List, [], ◌∷◌, refl}
+use Rattle.std.specs.Prelude.{IsTrue}
 use Rattle.word_base.specs.Lanes.{Ends}
 use Rattle.word_base.specs.Settings.{Setting}
 use Rattle.tpf_program.specs.declared.instruction.Instruction.{Instruction}

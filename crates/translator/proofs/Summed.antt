@@ -1,19 +1,18 @@
 -- There is a dispatch of the program that adds in shared memory, and its run has a value.
-use Rattle.std.proofs.Common.{◌≡◌, ℕ, zero, suc, ◌+◌, ◌*◌, ◌/◌, ◌%◌, ◌<◌, ◌≤◌, ◌^◌, Bool, true, false, List, [], ◌∷◌, length, Option, Some, None, refl, sym, ap, ◌∙◌, subst, arith}
+use Rattle.std.proofs.Common.{◌≡◌, ℕ, zero, suc, ◌<◌, ◌≤◌, ◌^◌, Bool, true, false, List, [], ◌∷◌, length, Option, Some, None, refl, subst, arith}
 use Rattle.std.specs.Prelude.{nat_eq, if◌then◌else◌, ◌||◌, slice_get, slice_index, option_map}
 use Rattle.std.specs.Bool.{MatchBool}
-use Rattle.word_base.specs.declared.event.Ids.{Ids}
 use Rattle.word_base.specs.declared.event.Room.{Room}
 use Rattle.word_base.specs.declared.event.Room.TheVariants.{Resource, Uav, Counter, Shared}
-use Rattle.word_base.specs.Settings.{AreIds, HoldsWords}
+use Rattle.word_base.specs.Settings.{AreIds}
 use Rattle.word_base.specs.Words.{AreWords}
 use Rattle.tpf_program.specs.Bytecode as bytecode
 use Rattle.tpf_program.specs.Declarations.{threads_in}
-use Rattle.tpf_program.specs.Extents.{IsExtent, FitsRooms}
+use Rattle.tpf_program.specs.Extents.{IsExtent}
 use Rattle.tpf_program.specs.Opcodes.{meaning_but_return}
-use Rattle.translator.specs.Bindings.{Binding, Uav as uav, Bound, FitsConstants, HoldsConstants, Fits}
-use Rattle.translator.specs.Dispatch.{Dispatch, IsDispatch, AreLanes, Shares, lanes_of, setting_of, room_words, group_of_lane, ids_of, at_start, shared_machine}
-use Rattle.translator.specs.RunExamples.{summing, one_group, views, where_zero, run_of, in_turns, stand}
+use Rattle.translator.specs.Bindings.{Binding, Uav as uav, Bound, HoldsConstants, Fits}
+use Rattle.translator.specs.Dispatch.{IsDispatch, Shares, setting_of, ids_of, at_start, shared_machine}
+use Rattle.translator.specs.RunExamples.{summing, one_group, views, run_of, in_turns, stand}
 use Rattle.translator.specs.SameRuns.{ProgramRuns}
 use Rattle.translator.specs.ShapeExamples.{u0_bound}
 use Rattle.translator.proofs.Computed.{has_value}

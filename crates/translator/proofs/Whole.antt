@@ -1,13 +1,12 @@
 -- What a translation answers.
-use Rattle.std.proofs.Common.{◌≡◌, ℕ, zero, suc, ◌+◌, ◌<◌, ◌≤◌, ◌⊎◌, inl, inr, ⊎_elim, List, [], ◌∷◌, ◌++◌, length, Bool, true, false, Option, Some, None, refl, sym, ap, ◌∙◌, subst, arith}
-use Rattle.std.specs.Prelude.{IsTrue, Contains, nat_eq, nat_lt, not, ◌&&◌, filter, map, cond}
+use Rattle.std.proofs.Common.{◌≡◌, ℕ, zero, suc, ◌+◌, ◌<◌, inl, inr, ⊎_elim, List, [], ◌∷◌, ◌++◌, length, Bool, true, false, Some, None, refl, sym, ap, ◌∙◌, subst, arith}
+use Rattle.std.specs.Prelude.{IsTrue, Contains, nat_lt, not, ◌&&◌, filter, map}
 use Rattle.std.specs.List.{list_all, filter_map}
 use Rattle.word_base.specs.Words.{words_of}
 use Rattle.word_base.specs.declared.rule.Refusal.{Refusal}
 use Rattle.word_base.specs.declared.rule.Halt.{Halt}
 use Rattle.word_base.specs.declared.rule.Halt.TheVariants.{Refused, NoMemory}
-use Rattle.word_base.specs.declared.rule.Rule.TheVariants.{U1}
-use Rattle.word_base.specs.Rules.{refusal, comes_before, IsFirst, IsSound, HaltsBy, first}
+use Rattle.word_base.specs.Rules.{IsFirst, IsSound, HaltsBy, first}
 use Rattle.dxbc_container.specs.Chunks.{IsShex}
 use Rattle.dxbc_container.specs.Refusals.{shex_refusals}
 use Rattle.tpf_program.specs.declared.declaration.Declaration.{Declaration}
@@ -18,12 +17,12 @@ use Rattle.tpf_program.specs.Declarations.{Threads, threads_in}
 use Rattle.tpf_program.specs.Extents.{shared_extent, words_declared}
 use Rattle.tpf_program.specs.Program.{Shader}
 use Rattle.tpf_program.specs.StraightLine.{is_built, is_built_code, returns, ReturnsAtEnd, IsStraightLine, IsOutside}
-use Rattle.spirv_words.specs.Text.{is_instr, Module, header_of, words_of_code}
+use Rattle.spirv_words.specs.Text.{is_instr, header_of, words_of_code}
 use Rattle.spirv_words.specs.Sections.{sized, is_version}
-use Rattle.spirv_words.specs.Variables.{Wanted, nothing_wanted}
+use Rattle.spirv_words.specs.Variables.{nothing_wanted}
 use Rattle.spirv_words.specs.Form.{Form}
 use Rattle.spirv_words.specs.Smallest.{smallest}
-use Rattle.translator.specs.Bindings.{Binding, numbers_from, shared_slots}
+use Rattle.translator.specs.Bindings.{numbers_from, shared_slots}
 use Rattle.translator.specs.Input.{IsBroken, SpellsNone}
 use Rattle.translator.specs.Means.{Means}
 use Rattle.translator.specs.Wanted.{wanted_of, group_of, input_of}

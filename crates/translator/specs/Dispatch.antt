@@ -1,9 +1,9 @@
 -- Dispatches of a program, the numbers of their lanes, and what their lanes share. (Direct3D 11: Dispatch; Shader Model 5 assembly: the
 -- thread ids, sync, the atomic instructions.)
-use Rattle.std.specs.Prelude.{◌≡◌, ℕ, ◌+◌, ◌*◌, ◌/◌, ◌%◌, ◌<◌, ◌≤◌, nat_eq, if◌then◌else◌, Bool, true, false, ◌&&◌, ◌||◌, List, [], ◌∷◌, ◌++◌, length, slice_index, slice_set}
+use Rattle.std.specs.Prelude.{ℕ, ◌+◌, ◌*◌, ◌/◌, ◌%◌, ◌<◌, ◌≤◌, nat_eq, if◌then◌else◌, Bool, true, false, ◌&&◌, ◌||◌, List, [], ◌∷◌, ◌++◌, length, slice_index, slice_set}
 use Rattle.std.specs.List.{list_all}
 use Rattle.word_base.specs.declared.event.Event.{Event}
-use Rattle.word_base.specs.declared.event.Event.TheVariants.{Load, Store, Atomic, Fence, Barrier}
+use Rattle.word_base.specs.declared.event.Event.TheVariants.{Load, Store, Atomic, Barrier}
 use Rattle.word_base.specs.declared.event.Ids.{Ids}
 use Rattle.word_base.specs.declared.event.Room.{Room}
 use Rattle.word_base.specs.declared.event.Room.TheVariants.{Resource, Uav, Counter, Shared}

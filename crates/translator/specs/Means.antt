@@ -1,7 +1,7 @@
 -- What a module owes to the program that it was translated from.
-use Rattle.std.specs.Prelude.{◌≡◌, ℕ, List, [], ◌∷◌, Option, Some, None}
+use Rattle.std.specs.Prelude.{ℕ, List}
 use Rattle.word_base.specs.Words.{words_of}
-use Rattle.word_base.specs.Lanes.{Standing, Forward, NeverWrong}
+use Rattle.word_base.specs.Lanes.{Forward, NeverWrong}
 use Rattle.word_base.specs.Settings.{Setting}
 use Rattle.dxbc_container.specs.Chunks.{IsShex}
 use Rattle.tpf_program.specs.Program.{Shader}

@@ -1,7 +1,7 @@
 -- The shape of a module: its OpLoopMerge, OpSwitch and event instructions in list order, in the same words as a program's. (SPIR-V
 -- specification, unified1, sections 2.11 and 3.52: a loop or switch reaches from its OpLoopMerge or OpSwitch to the label of its merge
 -- block.)
-use Rattle.std.specs.Prelude.{◌≡◌, ℕ, nat_eq, if◌then◌else◌, Bool, true, false, List, [], ◌∷◌, ◌++◌, position, Option, Some, None, slice_get, slice_index, option_map, option_and_then}
+use Rattle.std.specs.Prelude.{◌≡◌, ℕ, nat_eq, if◌then◌else◌, List, [], ◌∷◌, ◌++◌, position, Option, Some, None, slice_get, slice_index, option_map, option_and_then}
 use Rattle.std.specs.List.{list_any}
 use Rattle.word_base.specs.declared.event.Act.{Act}
 use Rattle.word_base.specs.declared.event.Act.TheVariants.{CompareExchange}

@@ -1,7 +1,6 @@
 -- Two lanes that add their numbers in shared memory, meet at a barrier, and write the sum, under three lists of picks.
-use Rattle.std.specs.Prelude.{◌≡◌, ℕ, zero, suc, nat_eq, if◌then◌else◌, Bool, true, false, List, [], ◌∷◌, ◌++◌, Option, Some, None, option_map, option_and_then, refl}
+use Rattle.std.specs.Prelude.{◌≡◌, ℕ, zero, suc, nat_eq, if◌then◌else◌, Bool, true, false, List, [], ◌∷◌, Option, Some, None, option_map, refl}
 use Rattle.word_base.specs.declared.event.Act.TheVariants.{Add}
-use Rattle.word_base.specs.declared.event.Event.{Event}
 use Rattle.word_base.specs.declared.event.Event.TheVariants.{Load, Store, Atomic, Barrier}
 use Rattle.word_base.specs.declared.event.Room.{Room}
 use Rattle.word_base.specs.declared.event.Room.TheVariants.{Uav, Shared}
@@ -20,7 +19,7 @@ use Rattle.tpf_program.specs.Opcodes.{meaning_but_return}
 use Rattle.tpf_program.specs.Program.{Shader}
 use Rattle.tpf_program.specs.Spelling.{nothing}
 use Rattle.tpf_program.specs.ExampleParts.{slot_of, literal, r0, r0_to, instruction, bare, program_of}
-use Rattle.translator.specs.Dispatch.{Memory, Dispatch, Shares, Logged, setting_of, at_start, shared_machine}
+use Rattle.translator.specs.Dispatch.{Dispatch, Shares, setting_of, at_start, shared_machine}
 use Rattle.translator.specs.Runs.{Machine, moved}
 
 -- A RUN BY COMPUTATION, where each pick makes fewer silent steps than a bound.

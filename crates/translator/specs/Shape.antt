@@ -1,12 +1,11 @@
 -- The shape of a program: its loops, its switches and the instructions that make events, in list order, with what they are in. Items
 -- between the opening of a loop or switch and its close are inside it.
-use Rattle.std.specs.Prelude.{ℕ, nat_eq, if◌then◌else◌, Bool, true, false, List, [], ◌∷◌, ◌++◌, map, zero, suc}
+use Rattle.std.specs.Prelude.{ℕ, if◌then◌else◌, Bool, true, List, [], ◌∷◌, ◌++◌, zero, suc}
 use Rattle.std.specs.List.{list_any}
 use Rattle.word_base.specs.declared.event.Act.{Act}
 use Rattle.word_base.specs.declared.event.Act.TheVariants as act
 use Rattle.word_base.specs.declared.event.Room.{Room}
 use Rattle.word_base.specs.declared.event.Room.TheVariants.{Counter, Shared}
-use Rattle.tpf_decode.specs.declared.argument.Argument.{Argument}
 use Rattle.tpf_program.specs.declared.instruction.Instruction.{Instruction}
 use Rattle.tpf_program.specs.Opcodes.{Meaning, meaning_of, LoadRaw, LoadStructured, StoreRaw, StoreStructured, Acts, Compares, Fetches, Exchanges, Allocates, Consumes, Syncs, Loop, EndLoop, Switch, EndSwitch, Case}
 use Rattle.tpf_program.specs.Ends.{Part, Opens, Closes, Within, part_of}

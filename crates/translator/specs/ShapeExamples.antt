@@ -1,5 +1,5 @@
 -- The shape of a program with a loop and a switch in it, and of a module that has it.
-use Rattle.std.specs.Prelude.{◌≡◌, ℕ, List, [], ◌∷◌, refl}
+use Rattle.std.specs.Prelude.{◌≡◌, List, [], ◌∷◌, refl}
 use Rattle.word_base.specs.declared.event.Act.TheVariants.{Sub}
 use Rattle.word_base.specs.declared.event.Room.TheVariants as room
 use Rattle.tpf_decode.specs.declared.argument.Kind.TheVariants as kind
@@ -8,9 +8,9 @@ use Rattle.tpf_program.specs.ExampleParts.{slot_of, literal, r0, r0_to, instruct
 use Rattle.tpf_program.specs.FlowExamples.{turning}
 use Rattle.tpf_program.specs.Opcodes.{meaning_but_return}
 use Rattle.tpf_program.specs.Spelling.{nothing}
-use Rattle.spirv_words.specs.Text.{Instr, Module, instr}
+use Rattle.spirv_words.specs.Text.{Instr, instr}
 use Rattle.translator.specs.Bindings.{Binding, Uav, Counter, Bound, places_of}
-use Rattle.translator.specs.Shape.{Item, OpensLoop, OpensSwitch, ClosesIt, Loads, Stores, Changes, program_shape}
+use Rattle.translator.specs.Shape.{Item, OpensLoop, OpensSwitch, ClosesIt, Stores, Changes, program_shape}
 use Rattle.translator.specs.ModuleShape.{module_shape}
 
 -- u0 at set 0 and binding 0

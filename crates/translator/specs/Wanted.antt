@@ -3,14 +3,12 @@ use Rattle.std.specs.Prelude.{ℕ, ◌+◌, nat_eq, nat_lt, max, if◌then◌els
 use Rattle.std.specs.List.{list_any, filter_map}
 use Rattle.tpf_program.specs.declared.declaration.Declaration.{Declaration}
 use Rattle.tpf_program.specs.declared.declaration.Declaration.TheVariants.{Uav, Input}
-use Rattle.tpf_program.specs.declared.declaration.Declared.{Declared}
 use Rattle.tpf_decode.specs.declared.argument.Kind.{Kind}
 use Rattle.tpf_decode.specs.declared.argument.Kind.TheVariants.{ThreadId, GroupId, IdInGroup, FlatId}
 use Rattle.tpf_program.specs.Declarations.{threads_in}
 use Rattle.tpf_program.specs.Extents.{is_resource, is_uav, steps_counter, shared_extent}
 use Rattle.tpf_program.specs.Sizes.{vectors_of}
 use Rattle.tpf_program.specs.Program.{Shader}
-use Rattle.tpf_program.specs.Sizes.{vectors_of}
 use Rattle.spirv_words.specs.Sections.{Group, sized}
 use Rattle.spirv_words.specs.Variables.{WantedBuffer, WantedUniform, Wanted}
 use Rattle.translator.specs.Bindings.{Register, Constant, Resource, Uav as uav, Counter, Place, Bound, Push, Binding, shared_slots}
