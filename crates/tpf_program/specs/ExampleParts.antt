@@ -6,12 +6,12 @@ use Rattle.word_base.specs.declared.event.Room.{Room}
 use Rattle.word_base.specs.Lanes.{Turn, Silent, Asks, Ends, Wrong}
 use Rattle.word_base.specs.Settings.{Setting}
 use Rattle.tpf_program.specs.declared.declaration.Declaration.{Declaration}
-use Rattle.tpf_program.specs.declared.instruction.Argument.{Argument}
+use Rattle.tpf_decode.specs.declared.argument.Argument.{Argument}
 use Rattle.tpf_program.specs.declared.instruction.Instruction.{Instruction}
-use Rattle.tpf_program.specs.declared.instruction.Kind.{Kind}
-use Rattle.tpf_program.specs.declared.instruction.Kind.TheVariants as kind
-use Rattle.tpf_program.specs.declared.instruction.Select.{Select}
-use Rattle.tpf_program.specs.declared.instruction.Select.TheVariants.{Bare, Mask, One}
+use Rattle.tpf_decode.specs.declared.argument.Kind.{Kind}
+use Rattle.tpf_decode.specs.declared.argument.Kind.TheVariants as kind
+use Rattle.tpf_decode.specs.declared.argument.Select.{Select}
+use Rattle.tpf_decode.specs.declared.argument.Select.TheVariants.{Bare, Mask, One}
 use Rattle.tpf_program.specs.Program.{Shader}
 use Rattle.tpf_program.specs.Spelling.{nothing}
 

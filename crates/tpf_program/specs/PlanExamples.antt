@@ -10,10 +10,10 @@ use Rattle.word_base.specs.declared.event.Scope.TheVariants.{Device, Group}
 use Rattle.word_base.specs.Registers.{Registers, zeros}
 use Rattle.tpf_program.specs.declared.declaration.Declaration.TheVariants as declaration
 use Rattle.tpf_program.specs.declared.declaration.ViewKind.TheVariants.{Raw, Structured}
-use Rattle.tpf_program.specs.declared.instruction.Argument.{Argument}
+use Rattle.tpf_decode.specs.declared.argument.Argument.{Argument}
 use Rattle.tpf_program.specs.declared.instruction.Instruction.{Instruction}
-use Rattle.tpf_program.specs.declared.instruction.Kind.TheVariants as kind
-use Rattle.tpf_program.specs.declared.instruction.Select.TheVariants.{Bare, Mask, Swizzle}
+use Rattle.tpf_decode.specs.declared.argument.Kind.TheVariants as kind
+use Rattle.tpf_decode.specs.declared.argument.Select.TheVariants.{Bare, Mask, Swizzle}
 use Rattle.tpf_program.specs.Program.{Shader}
 use Rattle.tpf_program.specs.Spelling.{nothing}
 use Rattle.tpf_program.specs.Opcodes.{meaning_but_return}

@@ -3,9 +3,9 @@ use Rattle.std.specs.Prelude.{◌≡◌, ℕ, true, [], ◌∷◌, refl}
 use Rattle.word_base.specs.declared.event.Ids.{Ids}
 use Rattle.word_base.specs.Registers.{Registers, zeros}
 use Rattle.tpf_program.specs.declared.declaration.Declaration.TheVariants as declaration
-use Rattle.tpf_program.specs.declared.instruction.Argument.{Argument}
-use Rattle.tpf_program.specs.declared.instruction.Kind.TheVariants as kind
-use Rattle.tpf_program.specs.declared.instruction.Select.TheVariants.{Mask, Swizzle, One}
+use Rattle.tpf_decode.specs.declared.argument.Argument.{Argument}
+use Rattle.tpf_decode.specs.declared.argument.Kind.TheVariants as kind
+use Rattle.tpf_decode.specs.declared.argument.Select.TheVariants.{Mask, Swizzle, One}
 use Rattle.tpf_program.specs.Program.{Shader}
 use Rattle.tpf_program.specs.Spelling.{nothing}
 use Rattle.tpf_program.specs.Opcodes.{meaning_but_return}
