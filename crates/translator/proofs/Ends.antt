@@ -8,7 +8,7 @@ met_by : {S : Type 0} (step : S → Turn S) (s : S) (turn : Turn S) → step s �
 met_by step s turn e zero t g h = sym h ∙ (ap step (sym g) ∙ e)
 met_by step s turn e (suc n) t g h = cc (g.1, e)
 
-no_event : {S : Type 0} (step : S → Turn S) (s : S) (event : Event) (after : ℕ → S) → step s ≡ Ends → Meets step s (Asks event after) → ⊥
+pub no_event : {S : Type 0} (step : S → Turn S) (s : S) (event : Event) (after : ℕ → S) → step s ≡ Ends → Meets step s (Asks event after) → ⊥
 no_event step s event after e h = let k = met_by step s (Asks event after) e h.0 h.1.0 h.1.1 h.1.2 in cc
 
 makes_nothing : {S : Type 0} (step : S → Turn S) (s : S) (events : List Event) (answers : List ℕ) (t : S) → step s ≡ Ends → Makes step s events answers t → s ≡ t

@@ -14,10 +14,10 @@ use Rattle.translator.specs.Means.{FollowsIn}
 use Rattle.translator.specs.ModuleShape.{HasShape}
 use Rattle.translator.proofs.Ends.{forward, never_wrong}
 
-left_ends : (p : Shader) (setting : Setting) (i : Instruction) → p.instructions ≡ i ∷ [] → IsTrue (returns i) → bytecode.step p setting bytecode.start ≡ Ends
+pub left_ends : (p : Shader) (setting : Setting) (i : Instruction) → p.instructions ≡ i ∷ [] → IsTrue (returns i) → bytecode.step p setting bytecode.start ≡ Ends
 left_ends p setting i h r = rw (h, r) refl
 
-right_ends : (x y z : ℕ) (p : Shader) (bindings : List Binding) (setting : Setting)
+pub right_ends : (x y z : ℕ) (p : Shader) (bindings : List Binding) (setting : Setting)
     → lane.lane (smallest 0x00010300 x y z) (places_of p bindings) setting (lane.start (smallest 0x00010300 x y z) (places_of p bindings) setting) ≡ Ends
 right_ends x y z p bindings setting = refl
 

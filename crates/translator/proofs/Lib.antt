@@ -4,3 +4,4 @@ pub mod Threads
 pub mod Whole
 pub mod Computed
 pub mod Summed
+pub mod Picks

@@ -1,7 +1,7 @@
 -- The shape of a module: its OpLoopMerge, OpSwitch and event instructions in list order, in the same words as a program's. (SPIR-V
 -- specification, unified1, sections 2.11 and 3.52: a loop or switch reaches from its OpLoopMerge or OpSwitch to the label of its merge
 -- block.)
-use Rattle.std.specs.Prelude.{◌≡◌, ℕ, nat_eq, if◌then◌else◌, List, [], ◌∷◌, ◌++◌, position, Option, Some, None, slice_get, slice_index, option_map, option_and_then}
+use Rattle.std.specs.Prelude.{◌≡◌, ℕ, zero, suc, nat_eq, if◌then◌else◌, List, [], ◌∷◌, ◌++◌, length, position, Option, Some, None, slice_get, slice_index, option_map, option_and_then}
 use Rattle.std.specs.List.{list_any}
 use Rattle.word_base.specs.declared.event.Act.{Act}
 use Rattle.word_base.specs.declared.event.Act.TheVariants.{CompareExchange}
@@ -30,8 +30,7 @@ abbrev pub merges_of : List Instr → List ℕ
 merges_of [] = []
 merges_of (i ∷ rest) = merge_by (op_of i.op) (op_at rest) (slice_index i.operands 0) ++ merges_of rest
 
--- The room of a pointer: of the variable itself, or of the variable that its access chain begins with. Shared memory (class 4) and
--- storage buffers (class 12) have one.
+-- The room of a variable. Shared memory (class 4) and storage buffers (class 12) have one.
 abbrev pub variable_room : Module → Places → ℕ → ℕ → Option Room
 variable_room m places x class =
     if nat_eq class 12 then bound_room places (decoration m.code x 34) (decoration m.code x 33) else
@@ -54,8 +53,15 @@ abbrev pub room_in : Module → Places → Option Instr → Option Room
 room_in m places None = None
 room_in m places (Some i) = room_by m places (op_of i.op) i.operands
 
+-- That many access chains back from a pointer. A variable stays itself, so as many as the module has instructions lead to the variable
+-- that the chains begin with.
+abbrev pub base_back : List Instr → ℕ → ℕ → ℕ
+base_back code zero x = x
+base_back code (suc n) x = base_back code n (base_in (definition code x) x)
+
+-- the room of a pointer: of the variable itself, or of the one that its access chains begin with
 abbrev pub pointer_room : Module → Places → ℕ → Option Room
-pointer_room m places x = room_in m places (definition m.code (base_in (definition m.code x) x))
+pointer_room m places x = room_in m places (definition m.code (base_back m.code (length m.code) x))
 
 abbrev pub item_for : (Room → Item) → Option Room → List Item
 item_for item None = []

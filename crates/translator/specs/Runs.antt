@@ -39,3 +39,9 @@ abbrev pub HasValue : {C S : Type 0} → Machine C → (ℕ → S → Turn S) �
 HasValue m step at c [] value = value ≡ c
 HasValue {C} {S} m step at c (lane ∷ picks) value =
     (at' : ℕ → S) × (c' : C) × Picked (m.is_idle c lane) m step at c lane at' c' × HasValue m step at' c' picks value
+
+-- These picks lead the lanes and what they share from one state to another.
+abbrev pub Leads : {C S : Type 0} → Machine C → (ℕ → S → Turn S) → (ℕ → S) → C → List ℕ → (ℕ → S) → C → Type 0
+Leads m step at c [] at' c' = (at' ≡ at) × (c' ≡ c)
+Leads {C} {S} m step at c (lane ∷ picks) at'' c'' =
+    (at' : ℕ → S) × (c' : C) × Picked (m.is_idle c lane) m step at c lane at' c' × Leads m step at' c' picks at'' c''

@@ -41,7 +41,7 @@ unfolding meaning_but_return
 one_step = refl
 
 -- A module: a buffer 20 of words, a loop with header 30 and merge block 32, in it a switch of the values 1, 3 and 4 with merge block 36,
--- and behind the switch a store to the buffer. The selection with merge block 41 is no switch.
+-- and behind the switch a store to the buffer through two access chains. The selection with merge block 41 is no switch.
 abbrev pub looping : List Instr
 looping =
     instr 71 (20 ∷ 34 ∷ 0 ∷ []) ∷ instr 71 (20 ∷ 33 ∷ 0 ∷ []) ∷ instr 59 (13 ∷ 20 ∷ 12 ∷ []) ∷
@@ -50,7 +50,7 @@ looping =
     instr 248 (33 ∷ []) ∷ instr 62 (21 ∷ 15 ∷ []) ∷ instr 247 (36 ∷ 0 ∷ []) ∷ instr 251 (40 ∷ 36 ∷ 1 ∷ 34 ∷ 3 ∷ 35 ∷ 4 ∷ 35 ∷ []) ∷
     instr 248 (34 ∷ []) ∷ instr 249 (35 ∷ []) ∷ instr 248 (35 ∷ []) ∷ instr 249 (36 ∷ []) ∷
     instr 248 (36 ∷ []) ∷ instr 247 (41 ∷ 0 ∷ []) ∷ instr 250 (42 ∷ 43 ∷ 41 ∷ []) ∷
-    instr 248 (43 ∷ []) ∷ instr 65 (16 ∷ 44 ∷ 20 ∷ 17 ∷ 18 ∷ []) ∷ instr 62 (44 ∷ 15 ∷ []) ∷ instr 249 (41 ∷ []) ∷
+    instr 248 (43 ∷ []) ∷ instr 65 (19 ∷ 45 ∷ 20 ∷ 17 ∷ []) ∷ instr 65 (16 ∷ 44 ∷ 45 ∷ 18 ∷ []) ∷ instr 62 (44 ∷ 15 ∷ []) ∷ instr 249 (41 ∷ []) ∷
     instr 248 (41 ∷ []) ∷ instr 249 (31 ∷ []) ∷ instr 248 (31 ∷ []) ∷ instr 249 (30 ∷ []) ∷
     instr 248 (32 ∷ []) ∷ instr 253 [] ∷ instr 56 [] ∷ []
 

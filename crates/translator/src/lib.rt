@@ -8,8 +8,10 @@
 #![tactic(auto)]
 
 mod emitter;
+mod laws;
 mod translation;
 
+pub use laws::{dispatch_laws, run_laws};
 pub use translation::translate;
 
 #[cfg(test)]

@@ -1,0 +1,38 @@
+ghost use Rattle.std.specs.Prelude.{◌≡◌, ℕ, List, [], ◌∷◌, ◌++◌, IsTrue};
+ghost use Rattle.word_base.specs.Lanes.{Turn};
+ghost use Rattle.tpf_program.specs.declared.instruction.Instruction.{Instruction as Spelled};
+ghost use Rattle.tpf_program.specs.Bytecode.{State};
+ghost use Rattle.tpf_program.specs.Program.{Shader};
+ghost use Rattle.tpf_program.specs.StraightLine.{returns};
+ghost use Rattle.spirv_words.specs.Smallest.{smallest};
+ghost use Rattle.translator.specs.Bindings.{Binding};
+ghost use Rattle.translator.specs.Dispatch.{Shares, IsDispatch};
+ghost use Rattle.translator.specs.Runs.{Machine, HasValue, Leads};
+ghost use Rattle.translator.specs.RunExamples.{summing, one_group, in_turns};
+ghost use Rattle.translator.specs.SameRuns.{SameRuns, ProgramRuns};
+ghost use Rattle.translator.specs.ShapeExamples.{u0_bound};
+
+/// What holds of runs over picks, for the proofs of callers. It does nothing when it runs.
+///
+/// A run over two lists of picks is the run over one and then the other; a lane that waits or has
+/// ended makes nothing.
+#[tactic(auto, using(crate::proofs::Picks::join, crate::proofs::Picks::split, crate::proofs::Picks::idle))]
+pub fn run_laws()
+    ensures join { (m : Machine Shares) (step : ℕ → State → Turn State) (at : ℕ → State) (c : Shares) (picks more : List ℕ) (at' : ℕ → State) (c' value : Shares)
+        → Leads m step at c picks at' c' → HasValue m step at' c' more value → HasValue m step at c (picks ++ more) value }
+    ensures split { (m : Machine Shares) (step : ℕ → State → Turn State) (at : ℕ → State) (c : Shares) (picks more : List ℕ) (value : Shares)
+        → HasValue m step at c (picks ++ more) value → (at' : ℕ → State) × (c' : Shares) × Leads m step at c picks at' c' × HasValue m step at' c' more value }
+    ensures idle { (m : Machine Shares) (step : ℕ → State → Turn State) (at : ℕ → State) (c : Shares) (lane : ℕ) (picks : List ℕ) (value : Shares)
+        → IsTrue (m.is_idle c lane) → HasValue m step at c (lane ∷ picks) value → HasValue m step at c picks value }
+{}
+
+/// What holds of whole dispatches, for the proofs of callers. It does nothing when it runs.
+///
+/// A program that returns at once has the runs of the module that does, under every dispatch and
+/// list of picks; and there is a dispatch of another program whose run has a value.
+#[tactic(auto, using(crate::proofs::Summed::is_dispatch))]
+pub fn dispatch_laws()
+    ensures same { (x y z : ℕ) (p : Shader) (bindings : List Binding) (i : Spelled) → p.instructions ≡ i ∷ [] → IsTrue (returns i) → SameRuns p bindings (smallest 0x00010300 x y z) }
+    ensures dispatch { IsDispatch summing u0_bound one_group }
+    ensures run { (value : Shares) × ProgramRuns summing one_group in_turns value }
+{}
