@@ -2,3 +2,4 @@ pub mod Arrived
 pub mod Fronts
 pub mod Parts
 pub mod Runs
+pub mod OneByte

@@ -1,5 +1,10 @@
+ghost use Rattle.std.specs.Prelude.{Some, IsTrue};
+ghost use Rattle.outside.specs.Causes.{HasCause, HasCauseOr, Takes};
+ghost use Rattle.outside.specs.Told.{BeginsRead, BeginsWrite, IsMissing, Reads, Writes};
+ghost use Rattle.outside.specs.Memory.{told_of};
+
 use crate::{Status, run};
-use outside::{MemoryDesk, MemorySink, Words};
+use outside::{Desk, Failed, MemoryDesk, MemorySink, Sink, Words};
 use std::alloc::{AllocError, Global};
 use std::test::Fail;
 use word_base::NoMemory;
@@ -205,5 +210,97 @@ fn refuses_a_byte_too_many(rt: HostRuntime) -> Result<(), Fail> {
         large.told.as_slice(),
         b"vkd3d-compiler: M1 at 16777216: file too large\n".as_slice()
     );
+    Ok(())
+}
+
+/// A desk that moves one byte a call.
+#[derive(Drop)]
+struct SlowDesk {
+    desk: MemoryDesk,
+}
+
+impl Desk for SlowDesk {
+    ghost told = { λ s. told_of s.desk };
+
+    fn begin_read(&mut self, name: &str) -> Result<(), Failed>
+        ensures desk { BeginsRead (told_of self.old.desk) name.now result (told_of self.new.desk) }
+        ensures cause { HasCauseOr (IsMissing (told_of self.old.desk).files name.now) (told_of self.old.desk).faults (told_of self.new.desk).faults result }
+    {
+        self.desk.begin_read(name)
+    }
+
+    #[tactic(auto, using(crate::proofs::OneByte::reads))]
+    fn read(&mut self, piece: &mut [u8]) -> Result<usize, Failed>
+        ensures desk { Reads (told_of self.old.desk) piece.new result (told_of self.new.desk) }
+        ensures cause { HasCause (told_of self.old.desk).faults (told_of self.new.desk).faults result }
+    {
+        if piece.is_empty() {
+            return Ok(0);
+        }
+        let mut byte = [0];
+        match self.desk.read(&mut byte) {
+            Ok(many) => {
+                piece[0] = byte[0];
+                Ok(many)
+            }
+            Err(failed) => Err(failed),
+        }
+    }
+
+    fn begin_write(&mut self, name: &str) -> Result<(), Failed>
+        ensures desk { BeginsWrite (told_of self.old.desk) name.now result (told_of self.new.desk) }
+        ensures cause { HasCause (told_of self.old.desk).faults (told_of self.new.desk).faults result }
+    {
+        self.desk.begin_write(name)
+    }
+
+    fn write(&mut self, piece: &[u8]) -> Result<usize, Failed>
+        requires begun { IsTrue (told_of self.old.desk).begun }
+        ensures desk { Writes (told_of self.old.desk) piece.now result (told_of self.new.desk) }
+        ensures cause { HasCause (told_of self.old.desk).faults (told_of self.new.desk).faults result }
+    {
+        self.desk.write(piece.get(..1).unwrap_or(piece))
+    }
+}
+
+/// A sink that takes one byte a call.
+#[derive(Drop)]
+struct SlowSink {
+    sink: MemorySink,
+}
+
+impl Sink for SlowSink {
+    ghost written = { λ s. Some s.sink.written };
+
+    ghost faults = { λ s. s.sink.counts.faults };
+
+    fn write(&mut self, piece: &[u8]) -> Result<usize, Failed>
+        ensures bytes { Takes (Some self.old.sink.written) piece.now result (Some self.new.sink.written) }
+        ensures cause { HasCause self.old.sink.counts.faults self.new.sink.counts.faults result }
+    {
+        self.sink.write(piece.get(..1).unwrap_or(piece))
+    }
+}
+
+/// The bytes of a run whose desk and sinks move one byte a call.
+fn run_slowly(alloc: Global, bytes: &[u8]) -> Result<(Status, Vec<u8>), NoMemory> {
+    let words = words(alloc, &[]).map_err(|_| NoMemory)?;
+    let mut files = SlowDesk {
+        desk: desk(alloc, "-", bytes, 0)?,
+    };
+    let mut written = SlowSink {
+        sink: sink(alloc, 0)?,
+    };
+    let mut errors = sink(alloc, 0)?;
+    let status = run(alloc, &words, &mut files, &mut written, &mut errors);
+    let stream = Vec::from_slice(alloc, written.sink.bytes()).map_err(|_| NoMemory)?;
+    Ok((status, stream))
+}
+
+#[test]
+fn one_byte_a_call(rt: HostRuntime) -> Result<(), Fail> {
+    let (status, stream) = run_slowly(rt.alloc(), &SMALLEST)?;
+    assert_eq!(rt; status, Status::Ok);
+    assert_eq!(rt; stream.as_slice(), MODULE.as_slice());
     Ok(())
 }
