@@ -121,8 +121,8 @@ shift_by_32 ids = refl
 
 pub shift_by_sum : (ids : Ids) →
     comes_to (whole (
-        instr 128 (10 ∷ 50 ∷ 44 ∷ 44 ∷ []) ∷ instr 194 (10 ∷ 51 ∷ 41 ∷ 50 ∷ []) ∷ instr 128 (10 ∷ 52 ∷ 50 ∷ 50 ∷ []) ∷
-        instr 195 (10 ∷ 53 ∷ 41 ∷ 52 ∷ []) ∷ instr 253 [] ∷ [])) ids
+    instr 128 (10 ∷ 50 ∷ 44 ∷ 44 ∷ []) ∷ instr 194 (10 ∷ 51 ∷ 41 ∷ 50 ∷ []) ∷ instr 128 (10 ∷ 52 ∷ 50 ∷ 50 ∷ []) ∷
+    instr 195 (10 ∷ 53 ∷ 41 ∷ 52 ∷ []) ∷ instr 253 [] ∷ [])) ids
     ≡ Some (Wrong 44 4)
 shift_by_sum ids = refl
 
