@@ -2,7 +2,8 @@
 use Rattle.std.proofs.Common.{◌≡◌, ℕ, Bool, true, ◌&&◌, nat_eq, IsTrue, refl}
 use Rattle.std.proofs.lemmas.Bool.{eq-eqb}
 use Rattle.spirv_words.specs.Smallest.{smallest}
-use Rattle.spirv_words.specs.Sections.{is_version, sized, has_sections}
+use Rattle.spirv_words.specs.Text.{is_version}
+use Rattle.spirv_words.specs.Sections.{sized, has_sections}
 use Rattle.spirv_words.specs.Variables.{nothing_wanted}
 use Rattle.spirv_words.specs.Form.{Form}
 

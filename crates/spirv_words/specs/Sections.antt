@@ -3,14 +3,11 @@
 use Rattle.std.specs.Prelude.{ℕ, nat_eq, if◌then◌else◌, Bool, true, false, ◌&&◌, ◌||◌, List, [], ◌∷◌, ◌++◌, map, filter, Option, Some, None, slice_index}
 use Rattle.std.specs.List.{list_any, list_all}
 use Rattle.spirv_words.specs.Operations.{Op, op_of, OpCapability, OpExtInstImport, OpMemoryModel, OpEntryPoint, OpExecutionMode, OpDecorate, OpMemberDecorate, OpTypeVoid, OpTypeBool, OpTypeInt, OpTypeVector, OpTypeArray, OpTypeRuntimeArray, OpTypeStruct, OpTypePointer, OpTypeFunction, OpConstantTrue, OpConstantFalse, OpConstant, OpConstantComposite, OpConstantNull, OpFunction, OpFunctionEnd, OpVariable}
-use Rattle.spirv_words.specs.Text.{Instr, Module}
+use Rattle.spirv_words.specs.Text.{Instr, Module, is_version}
 use Rattle.spirv_words.specs.Ids.{contains, list_eq, behind_text, declared}
 use Rattle.spirv_words.specs.Definitions.{are_distinct}
 
 -- HEADER. The version is the one that is asked for, 1.3 or 1.4; the other words of the header are always the same.
-abbrev pub is_version : ℕ → Bool
-is_version version = nat_eq version 0x00010300 || nat_eq version 0x00010400
-
 abbrev pub has_header : ℕ → Module → Bool
 has_header version m = is_version version && nat_eq m.version version
 

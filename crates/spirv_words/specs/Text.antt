@@ -1,5 +1,5 @@
 -- A module and its text, a list of words (SPIR-V specification, unified1, section 2.3, Physical Layout).
-use Rattle.std.specs.Prelude.{◌≡◌, ℕ, ◌+◌, ◌*◌, nat_lt, Bool, false, ◌&&◌, List, [], ◌∷◌, ◌++◌, length, flat_map, Option, Some, None, IsTrue}
+use Rattle.std.specs.Prelude.{◌≡◌, ℕ, ◌+◌, ◌*◌, nat_eq, nat_lt, Bool, false, ◌&&◌, ◌||◌, List, [], ◌∷◌, ◌++◌, length, flat_map, Option, Some, None, IsTrue}
 use Rattle.std.specs.List.{list_all}
 use Rattle.spirv_words.specs.Operations.{Op, op_of}
 use Rattle.spirv_words.specs.Layouts.{layout_of, fits}
@@ -40,7 +40,12 @@ is_instr i = fits_op (op_of i.op) i.operands && nat_lt (length i.operands) 65535
 abbrev pub IsInstr : Instr → Type 0
 IsInstr i = IsTrue (is_instr i)
 
--- These words are the module's text: its header, and then its instructions one after the other.
+-- the versions 1.3 and 1.4
+abbrev pub is_version : ℕ → Bool
+is_version version = nat_eq version 0x00010300 || nat_eq version 0x00010400
+
+-- These words are the module's text: its header, of either version, and then its instructions one after the other.
 pub record IsTextOf (m : Module) (words : List ℕ) : Type 0 where
+  pub version : IsTrue (is_version m.version)
   pub is_text : words ≡ header_of m ++ words_of_code m.code
   pub instructions : IsTrue (list_all is_instr m.code)

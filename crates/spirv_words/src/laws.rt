@@ -1,12 +1,12 @@
 ghost use Rattle.std.specs.Prelude.{◌≡◌, ℕ, List, ◌++◌, Some, IsTrue, slice_get};
 ghost use Rattle.std.specs.List.{list_all};
 ghost use Rattle.spirv_words.specs.Operations.{Op, op_of, number_of};
-ghost use Rattle.spirv_words.specs.Text.{Instr, Module, IsTextOf, is_instr, words_of_code};
+ghost use Rattle.spirv_words.specs.Text.{Instr, Module, IsTextOf, is_instr, is_version, words_of_code};
 ghost use Rattle.spirv_words.specs.Smallest.{smallest};
 ghost use Rattle.spirv_words.specs.Operands.{is_sorted, is_defined};
 ghost use Rattle.spirv_words.specs.Globals.{Machine};
 ghost use Rattle.spirv_words.specs.Lane.{State, step, act_of_op};
-ghost use Rattle.spirv_words.specs.Sections.{is_version, sized};
+ghost use Rattle.spirv_words.specs.Sections.{sized};
 ghost use Rattle.spirv_words.specs.Variables.{nothing_wanted};
 ghost use Rattle.spirv_words.specs.Definitions.{has_sorts, has_single_definitions};
 ghost use Rattle.spirv_words.specs.Form.{Form};

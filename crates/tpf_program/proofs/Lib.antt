@@ -1,2 +1,5 @@
 pub mod Shortest
 pub mod Only
+pub mod Kept
+pub mod Left
+pub mod Carried

@@ -9,6 +9,7 @@ pub mod Writes
 pub mod Views
 pub mod Plans
 pub mod Results
+pub mod Holding
 pub mod Ends
 pub mod Bytecode
 pub mod Extents

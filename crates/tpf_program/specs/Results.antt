@@ -1,6 +1,6 @@
 -- The registers that an instruction leaves, from those at its start and the words of its parts. (Shader Model 5 assembly: each
 -- instruction.)
-use Rattle.std.specs.Prelude.{ℕ, ◌*◌, ◌/◌, nat_eq, if◌then◌else◌, List, slice_index}
+use Rattle.std.specs.Prelude.{ℕ, ◌*◌, ◌/◌, ◌%◌, ◌^◌, nat_eq, if◌then◌else◌, List, slice_index}
 use Rattle.word_base.specs.declared.arithmetic.Paired.{Paired}
 use Rattle.word_base.specs.Alu.{unary, binary, ternary, inserted_field, pair, difference}
 use Rattle.word_base.specs.Registers.{Registers}
@@ -27,9 +27,9 @@ swaps k i =
     writes_two k i.o0 (λ c. if nat_eq (value k i.o2 c) 0 then value k i.o3 c else value k i.o4 c)
     i.o1 (λ c. if nat_eq (value k i.o2 c) 0 then value k i.o4 c else value k i.o3 c)
 
--- bufinfo: the bytes of a raw view; the structures of a structured view and their bytes
+-- bufinfo: the bytes of a raw view, modulo 2 ^ 32; the structures of a structured view and their bytes
 abbrev pub measure_by : Addressing → ℕ → ℕ → ℕ
-measure_by Bytes extent c = of_four (4 * extent) 0 0 0 c
+measure_by Bytes extent c = of_four (4 * extent % 2 ^ 32) 0 0 0 c
 measure_by (Structures stride) extent c = of_four (extent / (stride / 4)) stride 0 0 c
 
 abbrev pub measure : Context → Argument → ℕ → ℕ

@@ -1,5 +1,5 @@
 -- What instructions write. (Shader Model 5 assembly: destination operands and write masks.)
-use Rattle.std.specs.Prelude.{ℕ, ◌/◌, ◌%◌, ◌^◌, nat_eq, nat_lt, if◌then◌else◌, Bool, ◌&&◌, List, [], ◌∷◌, filter, map}
+use Rattle.std.specs.Prelude.{ℕ, ◌/◌, ◌%◌, ◌^◌, nat_eq, nat_lt, if◌then◌else◌, Bool, false, ◌&&◌, List, [], ◌∷◌, filter, map}
 use Rattle.word_base.specs.Registers.{Registers}
 use Rattle.tpf_decode.specs.declared.argument.Kind.{Kind}
 use Rattle.tpf_decode.specs.declared.argument.Kind.TheVariants as kind
@@ -16,7 +16,7 @@ has_bit word n = nat_eq (word / 2 ^ n % 2) 1
 -- the components of a mask, in the order x, y, z, w
 abbrev pub in_mask : Select → ℕ → Bool
 in_mask (Mask bits) c = has_bit bits c
-in_mask other c = has_bit 0 c
+in_mask other c = false
 
 abbrev pub masked : Select → List ℕ
 masked select = filter (in_mask select) (0 ∷ 1 ∷ 2 ∷ 3 ∷ [])

@@ -11,11 +11,13 @@
 
 mod declaration;
 mod instruction;
+mod laws;
 mod program;
 mod reader;
 
 pub use declaration::{Declaration, Declared, SharedKind, ViewKind};
 pub use instruction::Instruction;
+pub use laws::bytecode_laws;
 pub use program::Program;
 pub use reader::read;
 pub use tpf_decode::{Argument, Kind, Relative, Select};

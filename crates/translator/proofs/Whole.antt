@@ -17,8 +17,8 @@ use Rattle.tpf_program.specs.Declarations.{Threads, threads_in}
 use Rattle.tpf_program.specs.Extents.{shared_extent, words_declared}
 use Rattle.tpf_program.specs.Program.{Shader}
 use Rattle.tpf_program.specs.StraightLine.{is_built, is_built_code, returns, ReturnsAtEnd, IsStraightLine, IsOutside}
-use Rattle.spirv_words.specs.Text.{is_instr, header_of, words_of_code}
-use Rattle.spirv_words.specs.Sections.{sized, is_version}
+use Rattle.spirv_words.specs.Text.{is_instr, is_version, header_of, words_of_code}
+use Rattle.spirv_words.specs.Sections.{sized}
 use Rattle.spirv_words.specs.Variables.{nothing_wanted}
 use Rattle.spirv_words.specs.Form.{Form}
 use Rattle.spirv_words.specs.Smallest.{smallest}
@@ -109,7 +109,7 @@ meant bytes content words p t form instructions chunk line threads whole =
       target = smallest 0x00010300 t.x t.y t.z;
       chunk = chunk;
       spelled = line.spelled;
-      text = record { is_text = whole; instructions = instructions 0x00010300 t.x t.y t.z };
+      text = record { version = refl; is_text = whole; instructions = instructions 0x00010300 t.x t.y t.z };
       form =
           subst (λ w. Form 0x00010300 (group_of p) w (smallest 0x00010300 t.x t.y t.z)) (wants_nothing p line.declarations)
           (subst (λ (g : Threads). Form 0x00010300 (sized g.x g.y g.z) nothing_wanted (smallest 0x00010300 t.x t.y t.z)) threads (form 0x00010300 t.x t.y t.z refl));

@@ -2,6 +2,11 @@ ghost use Rattle.std.specs.Prelude.{◌≡◌, ℕ, ◌<◌, ◌≤◌, ◌^◌,
 ghost use Rattle.std.specs.Int.{w32, reverse_bits, leading_zeros, trailing_zeros};
 ghost use Rattle.word_base.specs.Bits.{ones_among, reversed, zeros_above, zeros_below};
 ghost use Rattle.word_base.specs.Alu as alu;
+ghost use Rattle.word_base.specs.declared.event.Act.{Act};
+ghost use Rattle.word_base.specs.declared.arithmetic.Unary.{Unary};
+ghost use Rattle.word_base.specs.declared.arithmetic.Binary.{Binary};
+ghost use Rattle.word_base.specs.declared.arithmetic.Ternary.{Ternary};
+ghost use Rattle.word_base.specs.declared.arithmetic.Paired.{Paired};
 
 use crate::event::Act;
 
@@ -349,4 +354,16 @@ pub fn arithmetic_laws()
     ensures reversed { (a : ℕ) → reversed 32 a ≡ reverse_bits w32 a }
     ensures above { (a : ℕ) → 0 < a → a < 2 ^ 32 → zeros_above 32 a ≡ leading_zeros w32 a }
     ensures below { (a : ℕ) → 0 < a → a < 2 ^ 32 → zeros_below 32 a ≡ trailing_zeros w32 a }
+{}
+
+/// What holds of the results of the arithmetic, for the proofs of callers: of words they are words.
+/// It does nothing when it runs.
+pub fn result_laws()
+    ensures unary { (op : Unary) (a : ℕ) → a < 2 ^ 32 → alu.unary op a < 2 ^ 32 }
+    ensures binary { (op : Binary) (a b : ℕ) → a < 2 ^ 32 → b < 2 ^ 32 → alu.binary op a b < 2 ^ 32 }
+    ensures ternary { (op : Ternary) (a b c : ℕ) → a < 2 ^ 32 → b < 2 ^ 32 → c < 2 ^ 32 → alu.ternary op a b c < 2 ^ 32 }
+    ensures insert { (width offset inserted base : ℕ) → base < 2 ^ 32 → alu.inserted_field width offset inserted base < 2 ^ 32 }
+    ensures first { (op : Paired) (a b : ℕ) → a < 2 ^ 32 → b < 2 ^ 32 → (alu.pair op a b).first < 2 ^ 32 }
+    ensures second { (op : Paired) (a b : ℕ) → a < 2 ^ 32 → b < 2 ^ 32 → (alu.pair op a b).second < 2 ^ 32 }
+    ensures act { (kind : Act) (old a b : ℕ) → old < 2 ^ 32 → a < 2 ^ 32 → b < 2 ^ 32 → alu.act kind old a b < 2 ^ 32 }
 {}

@@ -15,6 +15,7 @@ mod word;
 
 pub use arithmetic::{
     Binary, Paired, Ternary, Unary, alu_pair, alu1, alu2, alu3, arithmetic_laws, bfi, new_word,
+    result_laws,
 };
 pub use event::{Act, Classes, Event, Ids, Room, Scope};
 pub use rule::{Halt, NoMemory, Refusal, Rule, first_laws};
