@@ -173,9 +173,9 @@ const DCL_TGSM_RAW: u32 = 159;
 const DCL_RESOURCE_RAW: u32 = 161;
 
 #[test]
-fn registers_and_immediates(rt: HostRuntime) -> Result<(), Fail> {
-    let (temp, element_of) = (Kind::Temp, Kind::Indexable);
-    let rows: [(&[u32], u32, Role, Argument); 22] = [
+fn temporary_registers(rt: HostRuntime) -> Result<(), Fail> {
+    let temp = Kind::Temp;
+    let rows: [(&[u32], u32, Role, Argument); 8] = [
         (
             &[0x0010_0012, 0],
             MOV,
@@ -224,6 +224,18 @@ fn registers_and_immediates(rt: HostRuntime) -> Result<(), Fail> {
             Role::Source,
             register(temp, Select::One(3), 2),
         ),
+    ];
+    for (words, code, role, argument) in rows {
+        spells(&rt, rt.alloc(), words, code, role, argument)?;
+    }
+    Ok(())
+}
+
+#[test]
+fn elements_and_null(rt: HostRuntime) -> Result<(), Fail> {
+    let temp = Kind::Temp;
+    let element_of = Kind::Indexable;
+    let rows: [(&[u32], u32, Role, Argument); 7] = [
         (
             &[0x0020_3012, 1, 2],
             MOV,
@@ -272,6 +284,16 @@ fn registers_and_immediates(rt: HostRuntime) -> Result<(), Fail> {
             Role::Dest,
             bare(Kind::Null, Select::Swizzle(0xE4)),
         ),
+    ];
+    for (words, code, role, argument) in rows {
+        spells(&rt, rt.alloc(), words, code, role, argument)?;
+    }
+    Ok(())
+}
+
+#[test]
+fn immediates(rt: HostRuntime) -> Result<(), Fail> {
+    let rows: [(&[u32], u32, Role, Argument); 7] = [
         (&[0x0000_4001, 5], MOV, Role::Source, literal(5)),
         (
             &[0x0000_400D, 0xFFFF_FFFF],
@@ -312,10 +334,10 @@ fn registers_and_immediates(rt: HostRuntime) -> Result<(), Fail> {
 }
 
 #[test]
-fn constants_and_thread_numbers(rt: HostRuntime) -> Result<(), Fail> {
-    let (constant, table) = (Kind::Constant, Kind::ImmediateConstant);
+fn constant_buffers(rt: HostRuntime) -> Result<(), Fail> {
+    let constant = Kind::Constant;
     let swizzle = Select::Swizzle(0xE4);
-    let rows: [(&[u32], u32, Role, Argument); 21] = [
+    let rows: [(&[u32], u32, Role, Argument); 7] = [
         (
             &[0x0020_801A, 0, 3],
             MOV,
@@ -358,6 +380,19 @@ fn constants_and_thread_numbers(rt: HostRuntime) -> Result<(), Fail> {
             Role::Source,
             indexed(constant, swizzle, 1, 0, scalar(Kind::FlatId, 0, 0, 0)),
         ),
+    ];
+    for (words, code, role, argument) in rows {
+        spells(&rt, rt.alloc(), words, code, role, argument)?;
+    }
+    Ok(())
+}
+
+#[test]
+fn constants_by_numbers_and_tables(rt: HostRuntime) -> Result<(), Fail> {
+    let constant = Kind::Constant;
+    let table = Kind::ImmediateConstant;
+    let swizzle = Select::Swizzle(0xE4);
+    let rows: [(&[u32], u32, Role, Argument); 5] = [
         (
             &[0x0420_8E46, 1, 0x0002_402A],
             MOV,
@@ -388,6 +423,16 @@ fn constants_and_thread_numbers(rt: HostRuntime) -> Result<(), Fail> {
             Role::Source,
             indexed(table, swizzle, 0, 4, scalar(Kind::Temp, 0, 0, 0)),
         ),
+    ];
+    for (words, code, role, argument) in rows {
+        spells(&rt, rt.alloc(), words, code, role, argument)?;
+    }
+    Ok(())
+}
+
+#[test]
+fn thread_numbers(rt: HostRuntime) -> Result<(), Fail> {
+    let rows: [(&[u32], u32, Role, Argument); 6] = [
         (
             &[0x0002_0046],
             MOV,
@@ -424,6 +469,18 @@ fn constants_and_thread_numbers(rt: HostRuntime) -> Result<(), Fail> {
             Role::Source,
             bare(Kind::FlatId, Select::Mask(15)),
         ),
+    ];
+    for (words, code, role, argument) in rows {
+        spells(&rt, rt.alloc(), words, code, role, argument)?;
+    }
+    Ok(())
+}
+
+#[test]
+fn declared_operands(rt: HostRuntime) -> Result<(), Fail> {
+    let constant = Kind::Constant;
+    let swizzle = Select::Swizzle(0xE4);
+    let rows: [(&[u32], u32, Role, Argument); 3] = [
         (
             &[0x0002_0012],
             DCL_INPUT,
@@ -450,9 +507,9 @@ fn constants_and_thread_numbers(rt: HostRuntime) -> Result<(), Fail> {
 }
 
 #[test]
-fn views_and_modifiers(rt: HostRuntime) -> Result<(), Fail> {
+fn views_read_and_written(rt: HostRuntime) -> Result<(), Fail> {
     let swizzle = Select::Swizzle(0xE4);
-    let rows: [(&[u32], u32, Role, Argument); 21] = [
+    let rows: [(&[u32], u32, Role, Argument); 6] = [
         (
             &[0x0010_7E46, 0],
             LD_RAW,
@@ -489,6 +546,17 @@ fn views_and_modifiers(rt: HostRuntime) -> Result<(), Fail> {
             Role::ViewWrite,
             register(Kind::Shared, Select::Mask(1), 1),
         ),
+    ];
+    for (words, code, role, argument) in rows {
+        spells(&rt, rt.alloc(), words, code, role, argument)?;
+    }
+    Ok(())
+}
+
+#[test]
+fn views_named_and_pairs(rt: HostRuntime) -> Result<(), Fail> {
+    let swizzle = Select::Swizzle(0xE4);
+    let rows: [(&[u32], u32, Role, Argument); 8] = [
         (
             &[0x0011_E000, 2],
             ATOMIC_AND,
@@ -532,6 +600,16 @@ fn views_and_modifiers(rt: HostRuntime) -> Result<(), Fail> {
             register(Kind::Temp, Select::Swizzle(4), 0),
         ),
         (&[0x0000_4001, 12], ATOMIC_AND, Role::Pair, literal(12)),
+    ];
+    for (words, code, role, argument) in rows {
+        spells(&rt, rt.alloc(), words, code, role, argument)?;
+    }
+    Ok(())
+}
+
+#[test]
+fn modifiers(rt: HostRuntime) -> Result<(), Fail> {
+    let rows: [(&[u32], u32, Role, Argument); 7] = [
         (
             &[0x8010_000A, 0x0000_0041, 3],
             IADD,
@@ -582,9 +660,10 @@ fn views_and_modifiers(rt: HostRuntime) -> Result<(), Fail> {
 }
 
 #[test]
-fn refusals_of_operand_tokens(rt: HostRuntime) -> Result<(), Fail> {
-    let (dest, source) = (Role::Dest, Role::Source);
-    let rows: [(&[u32], u32, Role, Rule); 40] = [
+fn refused_selections(rt: HostRuntime) -> Result<(), Fail> {
+    let dest = Role::Dest;
+    let source = Role::Source;
+    let rows: [(&[u32], u32, Role, Rule); 16] = [
         (&[0x0010_0013, 0], MOV, dest, Rule::K6),
         (&[0x0010_000E, 0], MOV, dest, Rule::K6),
         (&[0x0010_0E46, 0], MOV, dest, Rule::K6),
@@ -601,6 +680,18 @@ fn refusals_of_operand_tokens(rt: HostRuntime) -> Result<(), Fail> {
         (&[0x0010_7012, 0], LD_RAW, Role::ViewRead, Rule::K6),
         (&[0x0011_EE46, 0], STORE_RAW, Role::ViewWrite, Rule::K6),
         (&[0x0011_E00E, 0], DCL_UAV_RAW, Role::ViewName, Rule::K6),
+    ];
+    for (words, code, role, rule) in rows {
+        refuses(&rt, rt.alloc(), words, code, role, rule, 0)?;
+    }
+    Ok(())
+}
+
+#[test]
+fn refused_kinds(rt: HostRuntime) -> Result<(), Fail> {
+    let dest = Role::Dest;
+    let source = Role::Source;
+    let rows: [(&[u32], u32, Role, Rule); 13] = [
         (&[0x0010_7E46, 0], MOV, source, Rule::K7),
         (&[0x0000_4002, 1, 2, 3, 4], MOV, dest, Rule::K7),
         (&[0x0020_8E46, 0, 0], MOV, dest, Rule::K7),
@@ -624,6 +715,17 @@ fn refusals_of_operand_tokens(rt: HostRuntime) -> Result<(), Fail> {
         ),
         (&[0x0010_0E46, 0], DCL_INPUT, Role::Input, Rule::K7),
         (&[0x0010_000A, 0], CASE, Role::Literal, Rule::K7),
+    ];
+    for (words, code, role, rule) in rows {
+        refuses(&rt, rt.alloc(), words, code, role, rule, 0)?;
+    }
+    Ok(())
+}
+
+#[test]
+fn refused_dimensions(rt: HostRuntime) -> Result<(), Fail> {
+    let source = Role::Source;
+    let rows: [(&[u32], u32, Role, Rule); 11] = [
         (&[0x0000_000A], MOV, source, Rule::K8),
         (&[0x0020_000A, 0, 0], MOV, source, Rule::K8),
         (&[0x0030_000A, 0, 0, 0], MOV, source, Rule::K8),
@@ -648,7 +750,7 @@ fn refusals_of_operand_tokens(rt: HostRuntime) -> Result<(), Fail> {
 }
 
 #[test]
-fn refusals_behind_operand_tokens(rt: HostRuntime) -> Result<(), Fail> {
+fn refused_relative_operands(rt: HostRuntime) -> Result<(), Fail> {
     let rt = &rt;
     let alloc = rt.alloc();
     let source = Role::Source;
@@ -688,6 +790,14 @@ fn refusals_behind_operand_tokens(rt: HostRuntime) -> Result<(), Fail> {
         )?;
         refuses(rt, alloc, &[0x0090_900A, token], MOV, source, Rule::K9, 1)?;
     }
+    Ok(())
+}
+
+#[test]
+fn refused_extended_tokens(rt: HostRuntime) -> Result<(), Fail> {
+    let rt = &rt;
+    let alloc = rt.alloc();
+    let source = Role::Source;
     for token in [
         0x0000_0002,
         0x0000_003F,
@@ -716,7 +826,13 @@ fn refusals_behind_operand_tokens(rt: HostRuntime) -> Result<(), Fail> {
             2,
         )?;
     }
-    let rows: [(&[u32], u32, Role, Rule, u32); 25] = [
+    Ok(())
+}
+
+#[test]
+fn refused_negations(rt: HostRuntime) -> Result<(), Fail> {
+    let source = Role::Source;
+    let rows: [(&[u32], u32, Role, Rule, u32); 6] = [
         (&[0x8010_000A, 0x0000_0041, 0], MOV, source, Rule::K10, 1),
         (&[0x8010_000A, 0x0000_0041, 0], MOVC, source, Rule::K10, 1),
         (&[0x8010_000A, 0x0000_0041, 0], 142, source, Rule::K10, 1),
@@ -741,6 +857,17 @@ fn refusals_behind_operand_tokens(rt: HostRuntime) -> Result<(), Fail> {
             Rule::K10,
             1,
         ),
+    ];
+    for (words, code, role, rule, place) in rows {
+        refuses(&rt, rt.alloc(), words, code, role, rule, place)?;
+    }
+    Ok(())
+}
+
+#[test]
+fn refused_ends(rt: HostRuntime) -> Result<(), Fail> {
+    let source = Role::Source;
+    let rows: [(&[u32], u32, Role, Rule, u32); 11] = [
         (&[], MOV, source, Rule::K11, 0),
         (&[0x0010_000A], MOV, source, Rule::K11, 1),
         (&[0x0000_4001], MOV, source, Rule::K11, 1),
@@ -758,8 +885,18 @@ fn refusals_behind_operand_tokens(rt: HostRuntime) -> Result<(), Fail> {
         ),
         (&[0x8010_000A], MOV, source, Rule::K11, 1),
         (&[0x8010_000A, 0x8000_0000], MOV, source, Rule::K11, 2),
+    ];
+    for (words, code, role, rule, place) in rows {
+        refuses(&rt, rt.alloc(), words, code, role, rule, place)?;
+    }
+    Ok(())
+}
 
-        // Two rules are broken, and the first counts.
+/// Two rules are broken, and the first counts.
+#[test]
+fn first_of_two_refusals(rt: HostRuntime) -> Result<(), Fail> {
+    let source = Role::Source;
+    let rows: [(&[u32], u32, Role, Rule, u32); 8] = [
         (&[0x0000_5003], MOV, source, Rule::K6, 0),
         (&[0x0030_0012], MOV, source, Rule::K6, 0),
         (&[0x0030_7E46], MOV, source, Rule::K7, 0),
@@ -782,7 +919,7 @@ fn refusals_behind_operand_tokens(rt: HostRuntime) -> Result<(), Fail> {
         (&[0x0620_800A, 1, 2, 0x0010_0E46], MOV, source, Rule::K9, 3),
     ];
     for (words, code, role, rule, place) in rows {
-        refuses(rt, alloc, words, code, role, rule, place)?;
+        refuses(&rt, rt.alloc(), words, code, role, rule, place)?;
     }
     Ok(())
 }
@@ -873,6 +1010,11 @@ fn extents(rt: HostRuntime) -> Result<(), Fail> {
     for (words, code, controls, first, end) in sound {
         cuts(&rt, rt.alloc(), words, code, controls, first, end)?;
     }
+    Ok(())
+}
+
+#[test]
+fn refused_extents(rt: HostRuntime) -> Result<(), Fail> {
     let broken: [(&[u32], Rule, u32); 38] = [
         (&[0x0000_003E], Rule::K3, 2),
         (&[0x0200_003E], Rule::K3, 2),
