@@ -8,6 +8,7 @@
 
 mod arithmetic;
 mod event;
+mod laws;
 mod rule;
 #[cfg(test)]
 mod tests;
@@ -18,5 +19,6 @@ pub use arithmetic::{
     result_laws,
 };
 pub use event::{Act, Classes, Event, Ids, Room, Scope};
+pub use laws::small_laws;
 pub use rule::{Halt, NoMemory, Refusal, Rule, first_laws};
-pub use word::{field, word_at, word_laws};
+pub use word::{byte_laws, field, word_at, word_laws};

@@ -29,3 +29,11 @@ pub fn word_laws()
     ensures words_length { (bytes : List ℕ) → length (words_of bytes) ≡ length bytes / 4 }
     ensures word { (bytes : List ℕ) (i : ℕ) → 4 * i + 4 ≤ length bytes → slice_index (words_of bytes) i ≡ word_at bytes i }
 {}
+
+/// What holds of the bytes of a slice, for the proofs of callers: they are bytes, and their words are
+/// words. It does nothing when it runs.
+#[tactic(auto, using(crate::proofs::Ranges::words_are))]
+pub fn byte_laws(bytes: &[u8])
+    ensures bytes { AreBytes bytes.now }
+    ensures words { AreWords (words_of bytes.now) }
+{}
