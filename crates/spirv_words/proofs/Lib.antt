@@ -3,3 +3,4 @@ pub mod Texts
 pub mod Steps
 pub mod Small
 pub mod Typed
+pub mod Formed

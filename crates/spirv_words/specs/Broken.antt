@@ -1,4 +1,4 @@
--- Which conditions of the form a module breaks, as a list, for the examples.
+-- Which conditions of the form a module breaks, as a list: none where it has the form.
 use Rattle.std.specs.Prelude.{ℕ, Bool, if◌then◌else◌, List, [], ◌∷◌, ◌++◌}
 use Rattle.spirv_words.specs.Text.{Instr, Module, instr}
 use Rattle.spirv_words.specs.Definitions.{has_single_definitions, has_distinct_types, has_sorts, has_local_results}

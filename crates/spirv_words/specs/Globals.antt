@@ -1,6 +1,6 @@
 -- What a module's constants and global variables stand for, by their first definition in front of the function, under a lane's setting
 -- and the places of rooms, constant buffers and push words (SPIR-V specification, unified1, sections 2.4 and 3.52.7 to 3.52.8).
-use Rattle.std.specs.Prelude.{ℕ, ◌+◌, ◌-◌, nat_eq, nat_lt, nat_le, if◌then◌else◌, Bool, true, false, ◌&&◌, List, [], ◌∷◌, replicate, map, filter, find, position, Option, Some, None, Ok, Err, slice_get, slice_index, option_map, option_and_then}
+use Rattle.std.specs.Prelude.{ℕ, zero, suc, ◌+◌, ◌-◌, nat_eq, nat_lt, nat_le, if◌then◌else◌, Bool, true, false, ◌&&◌, List, [], ◌∷◌, length, replicate, map, filter, find, position, Option, Some, None, Ok, Err, slice_get, slice_index, option_map, option_and_then}
 use Rattle.word_base.specs.declared.event.Ids.{Ids}
 use Rattle.word_base.specs.declared.event.Room.{Room}
 use Rattle.word_base.specs.declared.event.Room.TheVariants.{Shared}
@@ -8,8 +8,8 @@ use Rattle.word_base.specs.Settings.{Setting}
 use Rattle.spirv_words.specs.Operations.{Op, op_of, OpConstantTrue, OpConstantFalse, OpConstant, OpConstantNull, OpConstantComposite, OpVariable}
 use Rattle.spirv_words.specs.Text.{Instr}
 use Rattle.spirv_words.specs.Ids.{definition, declared}
-use Rattle.spirv_words.specs.Sorts.{Sort, Words, Truths, Vector, Array, sort_of, is_words}
-use Rattle.spirv_words.specs.Values.{Value, Word, Truth, Parts, AtLocal, AtRoom, AtConstants, AtPush, AtInput, Beyond, cells_of, Got}
+use Rattle.spirv_words.specs.Sorts.{Sort, Words, Truths, Vector, Array, Struct, sort_of}
+use Rattle.spirv_words.specs.Values.{Value, Word, Truth, AtLocal, AtRoom, AtConstants, AtPush, AtInput, Got, of_parts, all_there, cells_of}
 
 -- the room at a set and binding
 pub record RoomPlace : Type 0 where
@@ -113,65 +113,46 @@ variable_value m x class =
     if nat_eq class 6 then Some (AtLocal x 0) else
     None
 
--- the word of a constant
-abbrev pub null_word : Sort → Option ℕ
-null_word Words = Some 0
-null_word s = None
+-- the null of a type, where those of other types are known; types nest less deep than there are instructions
+abbrev pub null_by : (ℕ → Option Value) → Sort → Option Value
+null_by null Words = Some (Word 0)
+null_by null Truths = Some (Truth false)
+null_by null (Vector element count) = option_map (λ v. of_parts (replicate count v)) (null element)
+null_by null (Array element count) = option_map (λ v. of_parts (replicate count v)) (null element)
+null_by null (Struct members) = option_map of_parts (all_there (map null members))
+null_by null s = None
 
-abbrev pub word_in : List Instr → Option Op → List ℕ → Option ℕ
-word_in code (Some OpConstant) (t ∷ r ∷ word ∷ []) = Some word
-word_in code (Some OpConstantNull) (t ∷ r ∷ []) = null_word (sort_of code t)
-word_in code op os = None
+abbrev pub null_within : List Instr → ℕ → ℕ → Option Value
+null_within code zero t = None
+null_within code (suc depth) t = null_by (null_within code depth) (sort_of code t)
 
-abbrev pub word_of_instr : List Instr → Option Instr → Option ℕ
-word_of_instr code None = None
-word_of_instr code (Some i) = word_in code (op_of i.op) i.operands
+abbrev pub null_value : List Instr → ℕ → Option Value
+null_value code t = null_by (null_within code (length code)) (sort_of code t)
 
-abbrev pub constant_word : List Instr → ℕ → Option ℕ
-constant_word code x = word_of_instr code (definition (declared code) x)
+-- what an instruction defines, where the parts of a composite are known
+abbrev pub value_by : Machine → (ℕ → Option Value) → Op → List ℕ → Option Value
+value_by m part OpConstant (t ∷ r ∷ word ∷ []) = Some (Word word)
+value_by m part OpConstantTrue os = Some (Truth true)
+value_by m part OpConstantFalse os = Some (Truth false)
+value_by m part OpConstantNull (t ∷ r ∷ []) = null_value m.code t
+value_by m part OpConstantComposite (t ∷ r ∷ xs) = option_map of_parts (all_there (map part xs))
+value_by m part OpVariable (t ∷ r ∷ class ∷ rest) = variable_value m r class
+value_by m part op os = None
 
--- a null, and a composite whose parts are words
-abbrev pub null_parts : Bool → ℕ → Value
-null_parts of_words count = if of_words then Parts (replicate count 0) else Beyond
+abbrev pub value_of_op : Machine → (ℕ → Option Value) → Option Op → List ℕ → Option Value
+value_of_op m part None os = None
+value_of_op m part (Some op) os = value_by m part op os
 
-abbrev pub null_value : List Instr → Sort → Value
-null_value code Words = Word 0
-null_value code Truths = Truth false
-null_value code (Vector element count) = null_parts (is_words (sort_of code element)) count
-null_value code (Array element count) = null_parts (is_words (sort_of code element)) count
-null_value code s = Beyond
+abbrev pub value_of_instr : Machine → (ℕ → Option Value) → Option Instr → Option Value
+value_of_instr m part None = None
+value_of_instr m part (Some i) = value_of_op m part (op_of i.op) i.operands
 
-abbrev pub with_word : Option ℕ → Option (List ℕ) → Option (List ℕ)
-with_word (Some w) (Some ws) = Some (w ∷ ws)
-with_word w ws = None
-
-abbrev pub constant_words : List Instr → List ℕ → Option (List ℕ)
-constant_words code [] = Some []
-constant_words code (x ∷ xs) = with_word (constant_word code x) (constant_words code xs)
-
-abbrev pub composite_by : Option (List ℕ) → Value
-composite_by None = Beyond
-composite_by (Some ws) = Parts ws
-
-abbrev pub value_by : Machine → Op → List ℕ → Option Value
-value_by m OpConstant (t ∷ r ∷ word ∷ []) = Some (Word word)
-value_by m OpConstantTrue os = Some (Truth true)
-value_by m OpConstantFalse os = Some (Truth false)
-value_by m OpConstantNull (t ∷ r ∷ []) = Some (null_value m.code (sort_of m.code t))
-value_by m OpConstantComposite (t ∷ r ∷ xs) = Some (composite_by (constant_words m.code xs))
-value_by m OpVariable (t ∷ r ∷ class ∷ rest) = variable_value m r class
-value_by m op os = None
-
-abbrev pub value_of_op : Machine → Option Op → List ℕ → Option Value
-value_of_op m None os = None
-value_of_op m (Some op) os = value_by m op os
-
-abbrev pub value_of_instr : Machine → Option Instr → Option Value
-value_of_instr m None = None
-value_of_instr m (Some i) = value_of_op m (op_of i.op) i.operands
+abbrev pub global_within : Machine → ℕ → ℕ → Option Value
+global_within m zero x = None
+global_within m (suc depth) x = value_of_instr m (global_within m depth) (definition (declared m.code) x)
 
 abbrev pub global : Machine → ℕ → Option Value
-global m x = value_of_instr m (definition (declared m.code) x)
+global m x = value_of_instr m (global_within m (length m.code)) (definition (declared m.code) x)
 
 -- the memory at the start: Private variables hold their initializers
 abbrev pub cell : Got (List ℕ) → ℕ → Option ℕ

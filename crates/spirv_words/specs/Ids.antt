@@ -1,5 +1,5 @@
 -- The ids of an instruction, read from its operands by its layout.
-use Rattle.std.specs.Prelude.{◌≡◌, ℕ, nat_eq, if◌then◌else◌, Bool, true, false, ◌&&◌, List, [], ◌∷◌, Option, Some, None, find, refl}
+use Rattle.std.specs.Prelude.{◌≡◌, ℕ, nat_eq, nat_le, if◌then◌else◌, Bool, true, false, ◌&&◌, not, List, [], ◌∷◌, ◌++◌, length, drop, filter, Option, Some, None, find, slice_get, slice_index, option_and_then, refl}
 use Rattle.std.specs.List.{list_any}
 use Rattle.spirv_words.specs.Operations.{Op, op_of}
 use Rattle.spirv_words.specs.Layouts.{Part, ResultType, Result, Use, Name, Literal, Text, OptionalUse, OptionalLiteral, Uses, Names, Literals, Targets, layout_of, ends_text}
@@ -78,10 +78,32 @@ list_eq xs ys = false
 abbrev pub definition : List Instr → ℕ → Option Instr
 definition code x = find (λ i. contains (ids_of i).results x) code
 
--- The declarations: all instructions in front of the first function (section 2.4, Logical Layout of a Module).
+-- The function is the one that the first entry point names.
+abbrev pub entry_function : List Instr → Option ℕ
+entry_function code = option_and_then (λ i. slice_get i.operands 1) (find (λ i. nat_eq i.op 15) code)
+
+abbrev pub is_function : ℕ → Instr → Bool
+is_function f i = nat_eq i.op 54 && nat_eq (slice_index i.operands 1) f
+
+-- The declarations: all instructions in front of the function (section 2.4, Logical Layout of a Module), or of the first one where no
+-- entry point names one.
+abbrev pub is_entry : Option ℕ → Instr → Bool
+is_entry None i = nat_eq i.op 54
+is_entry (Some f) i = is_function f i
+
+abbrev pub in_front_of : (Instr → Bool) → List Instr → List Instr
+in_front_of test [] = []
+in_front_of test (i ∷ rest) = if test i then [] else i ∷ in_front_of test rest
+
 abbrev pub declared : List Instr → List Instr
-declared [] = []
-declared (i ∷ rest) = if nat_eq i.op 54 then [] else i ∷ declared rest
+declared code = in_front_of (is_entry (entry_function code)) code
+
+-- the code without the types that are defined behind the declarations, which define nothing
+abbrev pub is_type_instr : Instr → Bool
+is_type_instr i = nat_le 19 i.op && nat_le i.op 33
+
+abbrev pub without_late_types : List Instr → List Instr
+without_late_types code = declared code ++ filter (λ i. not (is_type_instr i)) (drop (length (declared code)) code)
 
 -- the type of an instruction's result
 abbrev pub type_in : List Part → List ℕ → Option ℕ

@@ -1,7 +1,6 @@
 -- The lane of a module: what it does, instruction by instruction (SPIR-V specification, unified1, section 3.52). Its events are those of
 -- the base crate, and where an instruction breaks rules the lane is wrong at the instruction's number, counted from 0.
-use Rattle.std.specs.Prelude.{ℕ, ◌+◌, nat_eq, if◌then◌else◌, Bool, true, false, ◌&&◌, List, [], ◌∷◌, find, drop, Option, Some, None, Ok, Err, slice_get, slice_index, option_map, option_and_then}
-use Rattle.std.specs.List.{list_any}
+use Rattle.std.specs.Prelude.{ℕ, ◌+◌, nat_eq, if◌then◌else◌, Bool, true, false, ◌&&◌, List, [], ◌∷◌, drop, Option, Some, None, Ok, Err, slice_get, slice_index, option_map, option_and_then}
 use Rattle.word_base.specs.Lanes.{Turn, Silent, Asks, Ends, Wrong, Standing, started}
 use Rattle.word_base.specs.declared.event.Event.{Event}
 use Rattle.word_base.specs.declared.event.Event.TheVariants.{Load, Store, Atomic, Fence, Barrier}
@@ -12,10 +11,11 @@ use Rattle.word_base.specs.declared.event.Classes.{Classes}
 use Rattle.word_base.specs.Settings.{Setting}
 use Rattle.spirv_words.specs.Operations.{Op, op_of, OpLabel, OpFunctionEnd, OpReturn, OpBranch, OpBranchConditional, OpSwitch, OpSelectionMerge, OpLoopMerge, OpVariable, OpLoad, OpStore, OpAccessChain, OpArrayLength, OpCompositeConstruct, OpCompositeExtract, OpExtInst, OpSelect, OpControlBarrier, OpMemoryBarrier, OpAtomicCompareExchange}
 use Rattle.spirv_words.specs.Text.{Instr, Module}
-use Rattle.spirv_words.specs.Ids.{list_eq}
+use Rattle.spirv_words.specs.Ids.{list_eq, definition, without_late_types}
+pub use Rattle.spirv_words.specs.Ids.{entry_function, is_function}
 use Rattle.spirv_words.specs.Sorts.{is_words, sort_of, sort_of_value}
 use Rattle.spirv_words.specs.Operands.{is_sorted, is_defined}
-use Rattle.spirv_words.specs.Values.{Value, Word, Truth, Parts, AtLocal, AtRoom, AtConstants, AtPush, AtInput, Beyond, Got, both, and_then, or_rule, word_of, truth_of, parts_of, words_of_all, cells_of}
+use Rattle.spirv_words.specs.Values.{Value, Word, Truth, AtLocal, AtRoom, AtConstants, AtPush, AtInput, Got, of_parts, of_words, both, and_then, or_rule, word_of, truth_of, words_of_all, values_of_all, extracted, cells_of}
 use Rattle.spirv_words.specs.Meanings.{Class, Unary, Binary, Ternary, Quaternary, OfTruth, OfTruths, Other, class_of, extended}
 use Rattle.spirv_words.specs.Globals.{Places, Machine, global, initial_memory, push_word, built_in}
 use Rattle.spirv_words.specs.Memory.{InRoom, chained, pointer_of, in_room, takes_stores, scope_of, classes_of, act_of}
@@ -89,7 +89,7 @@ target w other rest = other
 
 -- loads, of a word or of an input's vector
 abbrev pub input_value : Bool → List ℕ → ℕ → Got Value
-input_value of_word numbers w = if of_word then and_then (or_rule 7 (slice_get numbers w)) (λ x. Ok (Word x)) else Ok (Parts numbers)
+input_value of_word numbers w = if of_word then and_then (or_rule 7 (slice_get numbers w)) (λ x. Ok (Word x)) else Ok (of_words numbers)
 
 abbrev pub loads : Machine → State → ℕ → ℕ → Value → Turn State
 loads m s t r (AtLocal v w) = gives s r (and_then (or_rule 2 (s.memory v w)) (λ x. Ok (Word x)))
@@ -122,27 +122,13 @@ abbrev pub measured : Machine → Value → Got Value
 measured m (AtRoom room w) = Ok (Word (m.setting.extent room))
 measured m v = Err 8
 
--- a composite of words; of other values it is beyond the lane
-abbrev pub part_of : Option Value → Got (Option ℕ)
-part_of None = Err 2
-part_of (Some (Word w)) = Ok (Some w)
-part_of (Some v) = Ok None
-
-abbrev pub with_part : Option ℕ → Value → Value
-with_part (Some w) (Parts ws) = Parts (w ∷ ws)
-with_part w v = Beyond
-
-abbrev pub composed : State → List ℕ → Got Value
-composed s [] = Ok (Parts [])
-composed s (x ∷ xs) = and_then (both (part_of (s.values x)) (composed s xs)) (λ p. Ok (with_part p.0 p.1))
-
-abbrev pub extracted : List ℕ → List ℕ → Got Value
-extracted (k ∷ []) words = and_then (or_rule 7 (slice_get words k)) (λ x. Ok (Word x))
-extracted ks words = Err 8
-
 -- the extended instructions are those of an import of `GLSL.std.450`
+abbrev pub is_glsl_import : ℕ → Option Instr → Bool
+is_glsl_import set None = false
+is_glsl_import set (Some i) = nat_eq i.op 11 && list_eq i.operands (set ∷ 0x4C534C47 ∷ 0x6474732E ∷ 0x3035342E ∷ 0 ∷ [])
+
 abbrev pub is_glsl : List Instr → ℕ → Bool
-is_glsl code set = list_any (λ i. nat_eq i.op 11 && list_eq i.operands (set ∷ 0x4C534C47 ∷ 0x6474732E ∷ 0x3035342E ∷ 0 ∷ [])) code
+is_glsl code set = is_glsl_import set (definition code set)
 
 abbrev pub extended_by : List Instr → ℕ → ℕ → List ℕ → Got Value
 extended_by code set n (x ∷ []) = if is_glsl code set then extended n x else Err 8
@@ -190,8 +176,8 @@ act m s OpLoad (t ∷ r ∷ p ∷ rest) = got s (pointer s p) (loads m s t r)
 act m s OpStore (p ∷ x ∷ rest) = got s (both (pointer s p) (word s x)) (λ q. stores m s q.0 q.1)
 act m s OpAccessChain (t ∷ r ∷ p ∷ xs) = gives s r (and_then (both (pointer s p) (words_of_all s.values xs)) (λ q. chained m (sort_of_value m.code p) q.0 q.1))
 act m s OpArrayLength (t ∷ r ∷ p ∷ k ∷ []) = gives s r (and_then (pointer s p) (measured m))
-act m s OpCompositeConstruct (t ∷ r ∷ xs) = gives s r (composed s xs)
-act m s OpCompositeExtract (t ∷ r ∷ c ∷ ks) = gives s r (and_then (parts_of (s.values c)) (extracted ks))
+act m s OpCompositeConstruct (t ∷ r ∷ xs) = gives s r (and_then (values_of_all s.values xs) (λ vs. Ok (of_parts vs)))
+act m s OpCompositeExtract (t ∷ r ∷ c ∷ ks) = gives s r (and_then (or_rule 2 (s.values c)) (extracted ks))
 act m s OpExtInst (t ∷ r ∷ set ∷ n ∷ xs) = gives s r (and_then (words_of_all s.values xs) (extended_by m.code set n))
 act m s OpSelect (t ∷ r ∷ c ∷ a ∷ b ∷ []) =
     gives s r (and_then (both (truth s c) (both (word s a) (word s b))) (λ p. Ok (Word (if p.0 then p.1.0 else p.1.1))))
@@ -217,11 +203,14 @@ abbrev pub act_of_op : Machine → State → Option Op → List ℕ → Turn Sta
 act_of_op m s None os = Wrong s.place 8
 act_of_op m s (Some op) os = act_in m s (class_of op) os
 
--- an operand of a wrong sort comes first, then one without a definition
+-- An operand of a wrong sort comes first, then one without a definition. A type that is defined behind the declarations has none.
+abbrev pub sort_rule : List Instr → Instr → ℕ
+sort_rule code i = if is_sorted (without_late_types code) i then 2 else 1
+
 abbrev pub act_sorted : Machine → State → Instr → Bool → Bool → Turn State
 act_sorted m s i true true = act_of_op m s (op_of i.op) i.operands
 act_sorted m s i true false = Wrong s.place 2
-act_sorted m s i false defined = Wrong s.place 1
+act_sorted m s i false defined = Wrong s.place (sort_rule m.code i)
 
 -- the list ends in no block
 abbrev pub act_at : Machine → State → Option Instr → Turn State
@@ -232,12 +221,6 @@ abbrev pub step : Machine → State → Turn State
 step m s = act_at m s (slice_get m.code s.place)
 
 -- The lane begins behind the first label of the function that the first entry point names.
-abbrev pub entry_function : List Instr → Option ℕ
-entry_function code = option_and_then (λ i. slice_get i.operands 1) (find (λ i. nat_eq i.op 15) code)
-
-abbrev pub is_function : ℕ → Instr → Bool
-is_function f i = nat_eq i.op 54 && nat_eq (slice_index i.operands 1) f
-
 abbrev pub behind_label : List Instr → ℕ → Option ℕ
 behind_label [] place = None
 behind_label (i ∷ is) place =

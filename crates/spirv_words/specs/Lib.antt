@@ -11,6 +11,7 @@ pub mod Globals
 pub mod Memory
 pub mod Lane
 pub mod LaneExamples
+pub mod PartExamples
 pub mod Blocks
 pub mod Structure
 pub mod Definitions

@@ -3,7 +3,7 @@
 use Rattle.std.specs.Prelude.{◌≡◌, ℕ, ◌+◌, ◌-◌, ◌*◌, ◌/◌, ◌%◌, ◌^◌, nat_eq, nat_lt, nat_le, if◌then◌else◌, Bool, ◌&&◌, ◌||◌, not, [], ◌∷◌, Ok, Err, bit_and, bit_or, bit_xor, count_ones, refl}
 use Rattle.std.specs.Int.{w32, reverse_bits, leading_zeros, trailing_zeros}
 use Rattle.spirv_words.specs.Operations.{Op, OpIAdd, OpISub, OpIMul, OpUDiv, OpUMod, OpIAddCarry, OpISubBorrow, OpUMulExtended, OpSMulExtended, OpLogicalOr, OpLogicalAnd, OpLogicalNot, OpIEqual, OpINotEqual, OpUGreaterThanEqual, OpSGreaterThanEqual, OpULessThan, OpSLessThan, OpShiftRightLogical, OpShiftRightArithmetic, OpShiftLeftLogical, OpBitwiseOr, OpBitwiseXor, OpBitwiseAnd, OpNot, OpBitFieldInsert, OpBitFieldSExtract, OpBitFieldUExtract, OpBitReverse, OpBitCount}
-use Rattle.spirv_words.specs.Values.{Value, Word, Truth, Parts, Got}
+use Rattle.spirv_words.specs.Values.{Value, Word, Truth, Got, of_words}
 
 abbrev pub difference : ℕ → ℕ → ℕ
 difference x y = (x + (2 ^ 32 - y)) % 2 ^ 32
@@ -20,7 +20,7 @@ abbrev pub widened : ℕ → ℕ
 widened x = if nat_lt x (2 ^ 31) then x else x + (2 ^ 64 - 2 ^ 32)
 
 abbrev pub low_and_high : ℕ → Value
-low_and_high x = Parts (x % 2 ^ 32 ∷ x / 2 ^ 32 % 2 ^ 32 ∷ [])
+low_and_high x = of_words (x % 2 ^ 32 ∷ x / 2 ^ 32 % 2 ^ 32 ∷ [])
 
 abbrev pub shifted_with_sign : ℕ → ℕ → ℕ
 shifted_with_sign x n = if nat_lt x (2 ^ 31) then x / 2 ^ n else complement (complement x / 2 ^ n)
@@ -86,7 +86,7 @@ class_of OpIMul = on_words (λ x y. x * y % 2 ^ 32)
 class_of OpUDiv = Binary (λ x y. unless 5 (nat_lt 0 y) (x / y))
 class_of OpUMod = Binary (λ x y. unless 5 (nat_lt 0 y) (x % y))
 class_of OpIAddCarry = makes_pair (λ x y. low_and_high (x + y))
-class_of OpISubBorrow = makes_pair (λ x y. Parts (difference x y ∷ one_bit (nat_lt x y) ∷ []))
+class_of OpISubBorrow = makes_pair (λ x y. of_words (difference x y ∷ one_bit (nat_lt x y) ∷ []))
 class_of OpUMulExtended = makes_pair (λ x y. low_and_high (x * y))
 class_of OpSMulExtended = makes_pair (λ x y. low_and_high (widened x * widened y % 2 ^ 64))
 class_of OpLogicalOr = OfTruths (λ a b. a || b)
@@ -136,5 +136,5 @@ field_of_none = refl
 pub borrow : difference 3 5 ≡ 0xFFFFFFFE
 borrow = refl
 
-pub signed_product : low_and_high (widened 0xFFFFFFFF * widened 2 % 2 ^ 64) ≡ Parts (0xFFFFFFFE ∷ 0xFFFFFFFF ∷ [])
+pub signed_product : low_and_high (widened 0xFFFFFFFF * widened 2 % 2 ^ 64) ≡ of_words (0xFFFFFFFE ∷ 0xFFFFFFFF ∷ [])
 signed_product = refl

@@ -1,5 +1,5 @@
 -- Access chains, loads, stores and atomics of a lane (SPIR-V specification, unified1, sections 3.52.8 and 3.52.18).
-use Rattle.std.specs.Prelude.{ℕ, ◌+◌, ◌-◌, ◌*◌, ◌/◌, ◌%◌, nat_eq, nat_lt, if◌then◌else◌, Bool, true, false, ◌||◌, List, [], ◌∷◌, Option, Some, None, Ok, Err, slice_get}
+use Rattle.std.specs.Prelude.{ℕ, zero, suc, ◌+◌, ◌-◌, ◌*◌, ◌/◌, ◌%◌, nat_eq, nat_lt, if◌then◌else◌, Bool, true, false, ◌||◌, List, [], ◌∷◌, length, map, take, Option, Some, None, Ok, Err, slice_get}
 use Rattle.word_base.specs.declared.event.Act.{Act}
 use Rattle.word_base.specs.declared.event.Act.TheVariants.{Add, Sub, And, Or, Xor, SMax, SMin, UMax, UMin, Exchange}
 use Rattle.word_base.specs.declared.event.Scope.{Scope}
@@ -8,8 +8,9 @@ use Rattle.word_base.specs.declared.event.Classes.{Classes}
 use Rattle.word_base.specs.declared.event.Room.{Room}
 use Rattle.word_base.specs.declared.event.Room.TheVariants.{Resource}
 use Rattle.spirv_words.specs.Operations.{Op, OpAtomicExchange, OpAtomicIAdd, OpAtomicISub, OpAtomicSMin, OpAtomicUMin, OpAtomicSMax, OpAtomicUMax, OpAtomicAnd, OpAtomicOr, OpAtomicXor}
-use Rattle.spirv_words.specs.Sorts.{Sort, Words, Vector, Array, RuntimeArray, Struct, Pointer, sort_of, is_words}
-use Rattle.spirv_words.specs.Values.{Value, Word, Truth, Parts, AtLocal, AtRoom, AtConstants, AtPush, AtInput, Beyond, Got, and_then}
+use Rattle.spirv_words.specs.Text.{Instr}
+use Rattle.spirv_words.specs.Sorts.{Sort, Words, Truths, Vector, Array, RuntimeArray, Struct, Pointer, sort_of}
+use Rattle.spirv_words.specs.Values.{Value, Word, Truth, NoParts, Part, AtLocal, AtRoom, AtConstants, AtPush, AtInput, Got, both, and_then}
 use Rattle.spirv_words.specs.Globals.{Machine, decoration, member_decoration}
 
 -- a pointer's word, and the pointer to another word beside it
@@ -29,13 +30,41 @@ at_word (AtPush w) x = AtPush x
 at_word (AtInput kind w) x = AtInput kind x
 at_word v x = v
 
--- the words of the room in which a pointer stands
-abbrev pub room_length : Machine → Value → ℕ
-room_length m (AtRoom room w) = m.setting.extent room
-room_length m v = 0
+-- the words of the room in which a pointer stands; elsewhere an array without a length has no end
+abbrev pub room_length : Machine → Value → Option ℕ
+room_length m (AtRoom room w) = Some (m.setting.extent room)
+room_length m v = None
+
+-- sums and multiples of numbers, where the lowest broken rule counts
+abbrev pub added : Got ℕ → Got ℕ → Got ℕ
+added a b = and_then (both a b) (λ p. Ok (p.0 + p.1))
+
+abbrev pub total : List (Got ℕ) → Got ℕ
+total [] = Ok 0
+total (n ∷ ns) = added n (total ns)
+
+abbrev pub times : ℕ → Got ℕ → Got ℕ
+times k n = and_then n (λ words. Ok (k * words))
+
+-- The words that a value of a type takes, one for a truth, where those of other types are known. Types nest less deep than there are
+-- instructions.
+abbrev pub size_by : (ℕ → Got ℕ) → Sort → Got ℕ
+size_by size Words = Ok 1
+size_by size Truths = Ok 1
+size_by size (Vector element count) = times count (size element)
+size_by size (Array element count) = times count (size element)
+size_by size (Struct members) = total (map size members)
+size_by size s = Err 8
+
+abbrev pub size_within : List Instr → ℕ → ℕ → Got ℕ
+size_within code zero t = Err 8
+size_within code (suc depth) t = size_by (size_within code depth) (sort_of code t)
+
+abbrev pub size_of : List Instr → ℕ → Got ℕ
+size_of code t = size_by (size_within code (length code)) (sort_of code t)
 
 -- Of the variables with decorated layouts (Uniform 2, PushConstant 9, StorageBuffer 12) the decorations ArrayStride 6 and Offset 35
--- say where a word lies, in bytes; in the others elements lie side by side. Layouts in parts of words break rule 8.
+-- say where a word lies, in bytes; in the others parts lie side by side. Layouts in parts of words break rule 8.
 abbrev pub has_layout : ℕ → Bool
 has_layout class = nat_eq class 12 || (nat_eq class 2 || nat_eq class 9)
 
@@ -43,51 +72,44 @@ abbrev pub whole_words : Option ℕ → Got ℕ
 whole_words None = Err 8
 whole_words (Some bytes) = if nat_eq (bytes % 4) 0 then Ok (bytes / 4) else Err 8
 
-abbrev pub vector_words : Bool → ℕ → Got ℕ
-vector_words of_words count = if of_words then Ok count else Err 8
-
-abbrev pub element_words : Machine → Sort → Got ℕ
-element_words m Words = Ok 1
-element_words m (Vector element count) = vector_words (is_words (sort_of m.code element)) count
-element_words m s = Err 8
-
 abbrev pub stride : Machine → ℕ → ℕ → ℕ → Got ℕ
-stride m class t element = if has_layout class then whole_words (decoration m.code t 6) else element_words m (sort_of m.code element)
+stride m class t element = if has_layout class then whole_words (decoration m.code t 6) else size_of m.code element
 
-abbrev pub member_start : Machine → ℕ → ℕ → ℕ → Got ℕ
-member_start m class t k =
-    if has_layout class then whole_words (member_decoration m.code t k 35) else if nat_eq k 0 then Ok 0 else Err 8
+abbrev pub member_start : Machine → ℕ → ℕ → List ℕ → ℕ → Got ℕ
+member_start m class t members k =
+    if has_layout class then whole_words (member_decoration m.code t k 35) else total (map (size_of m.code) (take k members))
 
--- A part of a variable: its type and its first word.
-pub record Part : Type 0 where
-  pub type : ℕ
-  pub word : ℕ
+-- The word at which a chain of indices arrives, from a word in a type. Each index is tested, and the lowest broken rule counts; behind the
+-- end of a struct there is no type to go on with.
+abbrev pub where_inside : Bool → Got ℕ → Got ℕ
+where_inside test n = if test then n else Err 7
 
-abbrev pub part : ℕ → ℕ → Got Part
-part type word = Ok (record { type = type; word = word })
+abbrev pub has_element : Option ℕ → ℕ → ℕ → ℕ → Bool
+has_element None start size k = true
+has_element (Some limit) start size k = nat_lt k ((limit - start) / size)
 
-abbrev pub member_at : Machine → ℕ → Part → ℕ → Option ℕ → Got Part
-member_at m class p k None = Err 7
-member_at m class p k (Some type) = and_then (member_start m class p.type k) (λ start. part type (p.word + start))
+abbrev pub element_at : Option ℕ → ℕ → Got ℕ → Got ℕ → Got ℕ
+element_at limit k start size = and_then (both start size) (λ p. where_inside (has_element limit p.0 p.1 k) (Ok (p.0 + k * p.1)))
 
--- the part with that index, where the room ends behind so many words
-abbrev pub part_at : Machine → ℕ → ℕ → Sort → Part → ℕ → Got Part
-part_at m class limit (Struct members) p k = member_at m class p k (slice_get members k)
-part_at m class limit (Array element count) p k =
-    if nat_lt k count then and_then (stride m class p.type element) (λ n. part element (p.word + k * n)) else Err 7
-part_at m class limit (RuntimeArray element) p k =
-    and_then (stride m class p.type element) (λ n. if nat_lt k ((limit - p.word) / n) then part element (p.word + k * n) else Err 7)
-part_at m class limit (Vector element count) p k = if nat_lt k count then part element (p.word + k) else Err 7
-part_at m class limit s p k = Err 1
+abbrev pub member_at : (ℕ → Got ℕ → Got ℕ) → Got ℕ → Got ℕ → Option ℕ → Got ℕ
+member_at further start offset None = added start (Err 7)
+member_at further start offset (Some type) = further type (added start offset)
 
-abbrev pub part_by : Machine → ℕ → ℕ → List ℕ → Part → Got Part
-part_by m class limit [] p = Ok p
-part_by m class limit (k ∷ ks) p = and_then (part_at m class limit (sort_of m.code p.type) p k) (part_by m class limit ks)
+abbrev pub part_at : Machine → ℕ → Option ℕ → (ℕ → Got ℕ → Got ℕ) → Sort → ℕ → ℕ → Got ℕ → Got ℕ
+part_at m class limit further (Struct members) t k start = member_at further start (member_start m class t members k) (slice_get members k)
+part_at m class limit further (Array element count) t k start =
+    further element (added start (where_inside (nat_lt k count) (times k (stride m class t element))))
+part_at m class limit further (RuntimeArray element) t k start = further element (element_at limit k start (stride m class t element))
+part_at m class limit further (Vector element count) t k start = further element (added start (where_inside (nat_lt k count) (Ok k)))
+part_at m class limit further s t k start = Err 1
+
+abbrev pub part_by : Machine → ℕ → Option ℕ → List ℕ → ℕ → Got ℕ → Got ℕ
+part_by m class limit [] t start = start
+part_by m class limit (k ∷ ks) t start = part_at m class limit (part_by m class limit ks) (sort_of m.code t) t k start
 
 -- where an access chain from a pointer of that sort leads
 abbrev pub chained : Machine → Sort → Value → List ℕ → Got Value
-chained m (Pointer class pointee) v ks =
-    and_then (part_by m class (room_length m v) ks (record { type = pointee; word = word_at v })) (λ p. Ok (at_word v p.word))
+chained m (Pointer class pointee) v ks = and_then (part_by m class (room_length m v) ks pointee (Ok (word_at v))) (λ w. Ok (at_word v w))
 chained m s v ks = Err 1
 
 -- the value of an id as a pointer
@@ -95,8 +117,8 @@ abbrev pub pointer_of : Option Value → Got Value
 pointer_of None = Err 2
 pointer_of (Some (Word w)) = Err 1
 pointer_of (Some (Truth b)) = Err 1
-pointer_of (Some (Parts ws)) = Err 1
-pointer_of (Some Beyond) = Err 8
+pointer_of (Some NoParts) = Err 1
+pointer_of (Some (Part x others)) = Err 1
 pointer_of (Some v) = Ok v
 
 -- The word of a room at a pointer, inside the room.

@@ -129,7 +129,8 @@ row_of OpTypeArray = Arrays
 row_of OpTypePointer = Pointers
 row_of op = Free
 
--- Where an access chain leads by its types: to a type, past the end of a struct, or nowhere. An index into a struct is a constant.
+-- Where indices lead by their types: to a type, past what is known (behind the end of a struct, or by an index without a definition), or
+-- nowhere. An index of an access chain into a struct is a constant.
 pub data Way : Type 0 where
   Leads : (type : ℕ) → Way
   Past : Way
@@ -139,15 +140,15 @@ abbrev pub member_way : Option ℕ → Way
 member_way None = Past
 member_way (Some t) = Leads t
 
-abbrev pub struct_way : List ℕ → Option ℕ → Way
-struct_way members None = Nowhere
-struct_way members (Some k) = member_way (slice_get members k)
+abbrev pub struct_way : List ℕ → Bool → Option ℕ → Way
+struct_way members defined None = if defined then Nowhere else Past
+struct_way members defined (Some k) = member_way (slice_get members k)
 
 abbrev pub index_way : List Instr → Sort → ℕ → Way
 index_way code (Vector element count) x = Leads element
 index_way code (Array element count) x = Leads element
 index_way code (RuntimeArray element) x = Leads element
-index_way code (Struct members) x = struct_way members (literal_of code x)
+index_way code (Struct members) x = struct_way members (is_some (definition code x)) (literal_of code x)
 index_way code s x = Nowhere
 
 abbrev pub way_by : List Instr → (ℕ → Way) → Way → Way
@@ -160,8 +161,8 @@ chain_way code (x ∷ xs) t = way_by code (chain_way code xs) (index_way code (s
 
 -- the way that literal indices lead, as those of an extract
 abbrev pub literal_way : Sort → ℕ → Way
-literal_way (Vector element count) k = member_way (slice_get (parts_of_sort (Vector element count)) k)
-literal_way (Array element count) k = member_way (slice_get (parts_of_sort (Array element count)) k)
+literal_way (Vector element count) k = Leads element
+literal_way (Array element count) k = Leads element
 literal_way (Struct members) k = member_way (slice_get members k)
 literal_way s k = Nowhere
 
@@ -182,15 +183,20 @@ abbrev pub is_pointer_to : Sort → ℕ → ℕ → Bool
 is_pointer_to (Pointer class pointee) c t = nat_eq class c && nat_eq pointee t
 is_pointer_to s c t = false
 
+abbrev pub is_pointer : Sort → Bool
+is_pointer (Pointer class pointee) = true
+is_pointer s = false
+
 -- a load moves one word, or a vector of an Input variable
+abbrev pub is_loaded : List Instr → Sort → Bool
+is_loaded code s = is_words s || is_vector_of_words code s
+
 abbrev pub loads : List Instr → ℕ → Sort → Bool
-loads code t (Pointer class pointee) =
-    nat_eq pointee t && (is_words (sort_of code t) || (nat_eq class 1 && is_vector_of_words code (sort_of code t)))
+loads code t (Pointer class pointee) = type_is code (λ s. nat_eq pointee t && (is_words s || nat_eq class 1)) t
 loads code t s = false
 
 abbrev pub chains : List Instr → ℕ → List ℕ → Sort → Bool
-chains code t xs (Pointer class pointee) =
-    list_all (value_is code is_words) xs && leads_to (chain_way code xs pointee) (λ u. is_pointer_to (sort_of code t) class u)
+chains code t xs (Pointer class pointee) = leads_to (chain_way code xs pointee) (λ u. type_is code (λ s. is_pointer_to s class u) t)
 chains code t xs s = false
 
 -- the pointee is a struct whose member of that number is an array without a length
@@ -233,27 +239,33 @@ abbrev pub declares : List Instr → ℕ → List ℕ → Sort → Bool
 declares code class initializer (Pointer c pointee) = nat_eq c class && list_all (λ x. has_type code x pointee) initializer
 declares code class initializer s = false
 
-abbrev pub returns : ℕ → Sort → Bool
-returns t (Function result parameters) = nat_eq result t
-returns t s = false
+abbrev pub composes : List Instr → List ℕ → Sort → Bool
+composes code xs s = is_composite s && have_types code xs (parts_of_sort s)
+
+abbrev pub extracts : List Instr → ℕ → Way → Bool
+extracts code t way = leads_to way (λ u. type_is code (λ s. nat_eq u t) t)
+
+abbrev pub returns : List Instr → ℕ → Sort → Bool
+returns code t (Function result parameters) = type_is code (λ s. nat_eq result t) t
+returns code t s = false
 
 -- what an instruction of a row asks of its operands
 abbrev pub row_holds : List Instr → Row → List ℕ → List ℕ → Bool
 row_holds code (Makes result operands) uses (t ∷ r ∷ xs) = type_is code (wants code result) t && list_all (value_is code (wants code operands)) xs
 row_holds code (Takes operands) uses os = list_all (value_is code (wants code operands)) uses
 row_holds code Selects uses (t ∷ r ∷ c ∷ xs) = type_is code is_words t && (value_is code is_truths c && list_all (value_is code is_words) xs)
-row_holds code Loads uses (t ∷ r ∷ p ∷ rest) = type_is code is_type t && value_is code (loads code t) p
+row_holds code Loads uses (t ∷ r ∷ p ∷ rest) = type_is code (is_loaded code) t && value_is code (loads code t) p
 row_holds code Stores uses (p ∷ x ∷ rest) = value_is code (points_to_word code) p && value_is code is_words x
-row_holds code Chains uses (t ∷ r ∷ p ∷ xs) = type_is code is_type t && value_is code (chains code t xs) p
+row_holds code Chains uses (t ∷ r ∷ p ∷ xs) = type_is code is_pointer t && (list_all (value_is code is_words) xs && value_is code (chains code t xs) p)
 row_holds code Lengths uses (t ∷ r ∷ p ∷ k ∷ []) = type_is code is_words t && value_is code (measures code k) p
-row_holds code Extracts uses (t ∷ r ∷ c ∷ ks) = type_is code is_type t && defined_and code c (leads_to (way_from (extract_way code ks) (type_of code c)) (nat_eq t))
-row_holds code Composes uses (t ∷ r ∷ xs) = type_is code is_composite t && have_types code xs (parts_of_sort (sort_of code t))
+row_holds code Extracts uses (t ∷ r ∷ c ∷ ks) = type_is code is_type t && defined_and code c (extracts code t (way_from (extract_way code ks) (type_of code c)))
+row_holds code Composes uses (t ∷ r ∷ xs) = type_is code (composes code xs) t
 row_holds code Constants uses (t ∷ r ∷ word ∷ []) = type_is code is_words t
 row_holds code Nulls uses (t ∷ r ∷ []) = type_is code is_data t
 row_holds code Extends uses (t ∷ r ∷ set ∷ n ∷ xs) = type_is code is_words t && (is_import (definition code set) && list_all (value_is code is_words) xs)
 row_holds code Atomics uses (t ∷ r ∷ p ∷ xs) = type_is code is_words t && (value_is code (points_to_word code) p && list_all (value_is code is_words) xs)
 row_holds code Variables uses (t ∷ r ∷ class ∷ initializer) = type_is code (declares code class initializer) t
-row_holds code Functions uses (t ∷ r ∷ control ∷ f ∷ []) = type_is code is_type t && type_is code (returns t) f
+row_holds code Functions uses (t ∷ r ∷ control ∷ f ∷ []) = type_is code is_type t && type_is code (returns code t) f
 row_holds code Types uses os = list_all (type_is code is_type) uses
 row_holds code Integers uses (r ∷ width ∷ sign ∷ []) = nat_eq width 32 && nat_eq sign 0
 row_holds code Arrays uses (r ∷ element ∷ length ∷ []) = type_is code is_type element && defined_and code length (is_some (literal_of code length))

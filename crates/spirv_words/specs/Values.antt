@@ -4,21 +4,34 @@
 --   3 a branch to no block, a block unended  7 an access past the end
 --   4 a shift by 32 or more                  8 an instruction that cannot stand where the lane meets it
 -- Where several are broken at once the lowest counts.
-use Rattle.std.specs.Prelude.{ℕ, min, Bool, List, [], ◌∷◌, Option, Some, None, Result, Ok, Err}
+use Rattle.std.specs.Prelude.{ℕ, zero, suc, min, if◌then◌else◌, Bool, List, [], ◌∷◌, ◌++◌, map, Option, Some, None, Result, Ok, Err, option_and_then, option_map}
 use Rattle.word_base.specs.declared.event.Room.{Room}
 
--- A pointer is the place of a word: in a variable of the lane, a room, a constant buffer, the push constants or an input. `Beyond` is
--- a value that the lane does not compute with (a composite of composites or of truths): its use breaks rule 8.
+-- A composite is a list of parts, each a value of any kind: `Part` puts one in front of the others, which end in `NoParts`. A pointer is
+-- the place of a word: in a variable of the lane, a room, a constant buffer, the push constants or an input.
 pub data Value : Type 0 where
   Word : (word : ℕ) → Value
   Truth : (truth : Bool) → Value
-  Parts : (words : List ℕ) → Value
+  NoParts : Value
+  Part : (value others : Value) → Value
   AtLocal : (variable word : ℕ) → Value
   AtRoom : (room : Room) (word : ℕ) → Value
   AtConstants : (slot word : ℕ) → Value
   AtPush : (word : ℕ) → Value
   AtInput : (built_in word : ℕ) → Value
-  Beyond : Value
+
+-- the composite of these parts, and of these words
+abbrev pub of_parts : List Value → Value
+of_parts [] = NoParts
+of_parts (v ∷ vs) = Part v (of_parts vs)
+
+abbrev pub of_words : List ℕ → Value
+of_words ws = of_parts (map (λ w. Word w) ws)
+
+-- values that are all there
+abbrev pub all_there : List (Option Value) → Option (List Value)
+all_there [] = Some []
+all_there (v ∷ vs) = option_and_then (λ x. option_map (λ xs. x ∷ xs) (all_there vs)) v
 
 -- something, or the lowest rule that is broken
 abbrev pub Got : Type 0 → Type 0
@@ -38,32 +51,44 @@ abbrev pub or_rule : {X : Type 0} → ℕ → Option X → Got X
 or_rule rule None = Err rule
 or_rule rule (Some x) = Ok x
 
--- the value of an id as a word, a truth or a list of words
+-- the value of an id, as a word or as a truth
 abbrev pub word_of : Option Value → Got ℕ
 word_of None = Err 2
 word_of (Some (Word w)) = Ok w
-word_of (Some Beyond) = Err 8
 word_of (Some v) = Err 1
 
 abbrev pub truth_of : Option Value → Got Bool
 truth_of None = Err 2
 truth_of (Some (Truth b)) = Ok b
-truth_of (Some Beyond) = Err 8
 truth_of (Some v) = Err 1
-
-abbrev pub parts_of : Option Value → Got (List ℕ)
-parts_of None = Err 2
-parts_of (Some (Parts ws)) = Ok ws
-parts_of (Some Beyond) = Err 8
-parts_of (Some v) = Err 1
 
 abbrev pub words_of_all : (ℕ → Option Value) → List ℕ → Got (List ℕ)
 words_of_all values [] = Ok []
 words_of_all values (x ∷ xs) = and_then (both (word_of (values x)) (words_of_all values xs)) (λ p. Ok (p.0 ∷ p.1))
 
+abbrev pub values_of_all : (ℕ → Option Value) → List ℕ → Got (List Value)
+values_of_all values [] = Ok []
+values_of_all values (x ∷ xs) = and_then (both (or_rule 2 (values x)) (values_of_all values xs)) (λ p. Ok (p.0 ∷ p.1))
+
+-- the part of a composite with that number, counted from 0, and the value that so many numbers lead to
+abbrev pub part_of : Value → ℕ → Got Value
+part_of (Part v others) zero = Ok v
+part_of (Part v others) (suc k) = part_of others k
+part_of NoParts k = Err 7
+part_of v k = Err 1
+
+abbrev pub extracted : List ℕ → Value → Got Value
+extracted [] v = Ok v
+extracted (k ∷ ks) v = and_then (part_of v k) (extracted ks)
+
+-- The words of a value in order, as a variable holds them. A truth has the place of one word.
+abbrev pub words_in : Value → Got (List ℕ)
+words_in (Word w) = Ok (w ∷ [])
+words_in (Truth b) = Ok ((if b then 1 else 0) ∷ [])
+words_in NoParts = Ok []
+words_in (Part v others) = and_then (both (words_in v) (words_in others)) (λ p. Ok (p.0 ++ p.1))
+words_in v = Err 8
+
 -- the words that a variable with this initializer holds
 abbrev pub cells_of : Option Value → Got (List ℕ)
-cells_of None = Err 2
-cells_of (Some (Word w)) = Ok (w ∷ [])
-cells_of (Some (Parts ws)) = Ok ws
-cells_of (Some v) = Err 8
+cells_of v = and_then (or_rule 2 v) words_in

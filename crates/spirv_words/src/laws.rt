@@ -1,4 +1,4 @@
-ghost use Rattle.std.specs.Prelude.{◌≡◌, ℕ, List, ◌++◌, Some, IsTrue, slice_get};
+ghost use Rattle.std.specs.Prelude.{◌≡◌, ℕ, List, [], ◌++◌, Some, IsTrue, slice_get};
 ghost use Rattle.std.specs.List.{list_all};
 ghost use Rattle.spirv_words.specs.Operations.{Op, op_of, number_of};
 ghost use Rattle.spirv_words.specs.Text.{Instr, Module, IsTextOf, is_instr, is_version, words_of_code};
@@ -6,8 +6,9 @@ ghost use Rattle.spirv_words.specs.Smallest.{smallest};
 ghost use Rattle.spirv_words.specs.Operands.{is_sorted, is_defined};
 ghost use Rattle.spirv_words.specs.Globals.{Machine};
 ghost use Rattle.spirv_words.specs.Lane.{State, step, act_of_op};
-ghost use Rattle.spirv_words.specs.Sections.{sized};
-ghost use Rattle.spirv_words.specs.Variables.{nothing_wanted};
+ghost use Rattle.spirv_words.specs.Sections.{Group, sized};
+ghost use Rattle.spirv_words.specs.Variables.{Wanted, nothing_wanted};
+ghost use Rattle.spirv_words.specs.Broken.{broken_in};
 ghost use Rattle.spirv_words.specs.Definitions.{has_sorts, has_single_definitions};
 ghost use Rattle.spirv_words.specs.Form.{Form};
 
@@ -34,11 +35,14 @@ pub fn lane_laws()
 {}
 
 /// What holds of modules with the form, for the proofs of callers: no instruction breaks the first
-/// two strict rules by its operands' sorts or definitions. It does nothing when it runs.
-#[tactic(auto, using(crate::proofs::Typed::sorted, crate::proofs::Typed::defined))]
+/// two strict rules by its operands' sorts or definitions, and the form is that no condition is
+/// broken. It does nothing when it runs.
+#[tactic(auto, using(crate::proofs::Typed::sorted, crate::proofs::Typed::defined, crate::proofs::Formed::whole, crate::proofs::Formed::back))]
 pub fn form_laws()
     ensures sorted { (code : List Instr) (k : ℕ) (i : Instr) → IsTrue (has_sorts code) → slice_get code k ≡ Some i → IsTrue (is_sorted code i) }
     ensures defined { (bound : ℕ) (code : List Instr) (k : ℕ) (i : Instr) → IsTrue (has_single_definitions bound code) → slice_get code k ≡ Some i → IsTrue (is_defined code i) }
+    ensures whole { (version : ℕ) (group : Group) (wanted : Wanted) (m : Module) → broken_in version group wanted m ≡ [] → Form version group wanted m }
+    ensures back { (version : ℕ) (group : Group) (wanted : Wanted) (m : Module) → Form version group wanted m → broken_in version group wanted m ≡ [] }
 {}
 
 /// What holds of the smallest module, for the proofs of callers. It does nothing when it runs.
