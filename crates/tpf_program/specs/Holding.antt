@@ -7,6 +7,8 @@ use Rattle.word_base.specs.Words.{AreWords}
 use Rattle.tpf_decode.specs.declared.argument.Argument.{Argument}
 use Rattle.tpf_program.specs.declared.instruction.Instruction.{Instruction}
 use Rattle.tpf_decode.specs.declared.argument.Kind.{Kind}
+use Rattle.tpf_decode.specs.declared.argument.Select.{Select}
+use Rattle.tpf_decode.specs.declared.argument.Select.TheVariants.{Bare, Mask, Swizzle, One}
 use Rattle.tpf_program.specs.Program.{Shader}
 use Rattle.tpf_program.specs.Sizes.{Structures, addressing_of}
 
@@ -39,3 +41,19 @@ IsEventOfWords (Load room word) = word < 2 ^ 32
 IsEventOfWords (Store room word value) = (word < 2 ^ 32) × (value < 2 ^ 32)
 IsEventOfWords (Atomic room word kind a b) = (word < 2 ^ 32) × (a < 2 ^ 32) × (b < 2 ^ 32)
 IsEventOfWords other = Unit {0}
+
+-- what an operand may select: a component of four, or a mask or a swizzle of so many bits
+abbrev pub SelectsInRange : Select → Type 0
+SelectsInRange Bare = Unit {0}
+SelectsInRange (Mask mask) = mask < 16
+SelectsInRange (Swizzle swizzle) = swizzle < 256
+SelectsInRange (One component) = component < 4
+
+-- the operands of a spelled instruction: words where they are immediate, and selections in range
+pub record IsWellSpelled (i : Instruction) : Type 0 where
+  pub words : AreOfWords i
+  pub o0 : SelectsInRange i.o0.select
+  pub o1 : SelectsInRange i.o1.select
+  pub o2 : SelectsInRange i.o2.select
+  pub o3 : SelectsInRange i.o3.select
+  pub o4 : SelectsInRange i.o4.select

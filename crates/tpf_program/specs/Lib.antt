@@ -1,7 +1,9 @@
 pub mod Program
 pub mod Spelling
 pub mod Declarations
+pub mod Faults
 pub mod StraightLine
+pub mod Reading
 pub mod Opcodes
 pub mod Sizes
 pub mod Values
@@ -11,6 +13,8 @@ pub mod Plans
 pub mod Results
 pub mod Holding
 pub mod Ends
+pub mod Uses
+pub mod Nesting
 pub mod Bytecode
 pub mod Extents
 pub mod ExampleParts

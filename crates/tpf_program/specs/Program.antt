@@ -1,5 +1,5 @@
 -- A program as contracts see it.
-use Rattle.std.specs.Prelude.{ℕ, List}
+use Rattle.std.specs.Prelude.{ℕ, List, []}
 use Rattle.tpf_program.specs.declared.declaration.Declared.{Declared}
 use Rattle.tpf_program.specs.declared.instruction.Instruction.{Instruction}
 
@@ -10,3 +10,19 @@ pub record Shader : Type 0 where
   pub declarations : List Declared
   pub constants : List ℕ
   pub instructions : List Instruction
+
+-- a program of so many words, of which none are read
+abbrev pub unread : ℕ → Shader
+unread words = record { words = words; declarations = []; constants = []; instructions = [] }
+
+-- the program without words
+abbrev pub empty : Shader
+empty = unread 0
+
+-- A program, and the number of words that there is room for.
+pub record Kept : Type 0 where
+  pub shader : Shader
+  pub room : ℕ
+
+abbrev pub kept : Shader → ℕ → Kept
+kept shader room = record { shader = shader; room = room }

@@ -2,25 +2,37 @@
 //! spell, and what a lane of them does.
 //!
 //! The definitions stand in `specs/`: `Program` for a program as contracts see it, `Spelling` for the
-//! words that spell it, `Declarations` for the rules on declarations, `StraightLine` for the form that
-//! is read, and `Extents` for the settings that fit it. What a lane of it does: `Opcodes` says what
-//! each opcode means, `Sizes` what is declared, `Values` what operands stand for, `Writes` what is
-//! written, `Views` and `Plans` which events an instruction makes, `Results` what it leaves, `Ends`
-//! which ends match, and `Bytecode` one step of the lane.
+//! words that spell it, `Faults` for the rules that the words break, `Declarations` for the rules on
+//! declarations, `StraightLine` for the form that is read, and `Extents` for the settings that fit it.
+//! What a lane of it does: `Opcodes` says what each opcode means, `Sizes` what is declared, `Values`
+//! what operands stand for, `Writes` what is written, `Views` and `Plans` which events an instruction
+//! makes, `Results` what it leaves, `Ends` which ends match, and `Bytecode` one step of the lane.
 #![tactic(auto)]
 
 mod declaration;
+mod ends;
+mod fault;
 mod instruction;
+mod item;
 mod laws;
+mod operands;
 mod program;
 mod reader;
+mod rules;
+mod spelling;
+mod straight_line;
 
 pub use declaration::{Declaration, Declared, SharedKind, ViewKind};
+pub use ends::ends_laws;
 pub use instruction::Instruction;
 pub use laws::bytecode_laws;
 pub use program::Program;
-pub use reader::read;
+pub use reader::{read, read_into};
+pub use rules::rule_laws;
+pub use spelling::spelled_laws;
 pub use tpf_decode::{Argument, Kind, Relative, Select};
 
+#[cfg(test)]
+mod line_tests;
 #[cfg(test)]
 mod tests;

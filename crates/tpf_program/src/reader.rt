@@ -1,123 +1,229 @@
-ghost use Rattle.std.specs.Prelude.{◌≡◌, ℕ, ◌+◌, ◌*◌, ◌%◌, ◌<◌, ◌≤◌, ◌↔◌, length, IsTrue, IfOk, IfErr};
-ghost use Rattle.word_base.specs.Rules.{HaltsBy};
+ghost use Rattle.std.specs.Prelude.{◌≡◌, ◌+◌, ◌*◌, ◌%◌, ◌-◌, ◌/◌, ◌<◌, ◌≤◌, [], ◌∷◌, ◌++◌, Some, None, length, slice_index, IfOk, IfErr, OnOk};
+ghost use Rattle.word_base.specs.Rules.{HaltsBy, IsFirst, first};
 ghost use Rattle.word_base.specs.Words.{words_of};
-ghost use Rattle.tpf_program.specs.Spelling.{IsToken};
-ghost use Rattle.tpf_program.specs.Declarations.{is_group};
-ghost use Rattle.tpf_program.specs.StraightLine.{IsStraightLine, IsOutside, ReturnsAtOnce, IsReturn};
+ghost use Rattle.tpf_decode.specs.Refusals.{header_faults};
+ghost use Rattle.tpf_decode.specs.Spelling.{words_between};
+ghost use Rattle.tpf_program.specs.Faults.{body_faults, program_faults};
+ghost use Rattle.tpf_program.specs.Program.{empty};
+ghost use Rattle.tpf_program.specs.Spelling.{Spells, listed};
+ghost use Rattle.tpf_program.specs.StraightLine.{IsStraightLine, IsRefused};
+ghost use Rattle.tpf_program.specs.Reading.{IsReadTo};
 
 use crate::declaration::{Declaration, Declared};
-use crate::instruction::{Instruction, NOTHING};
+use crate::fault::first_reached;
+use crate::instruction::Instruction;
+use crate::item::{Piece, read_piece};
+use crate::operands::word;
 use crate::program::Program;
+use crate::straight_line::is_straight_line;
+use node_pool::Pool;
 use std::alloc::Global;
-use word_base::{Halt, Refusal, Rule, field, word_at, word_laws};
+use tpf_decode::header;
+use word_base::{Halt, Refusal, Rule, first_laws, word_laws};
 
-/// The version token of the profile cs_5_0.
-const VERSION: u32 = 0x00050050;
-
-/// The opcode of `dcl_thread_group`.
-const THREAD_GROUP: u32 = 155;
-
-/// The opcode of `ret`.
-const RETURN: u32 = 62;
-
-/// The answer to words that spell no straight line.
-const OUTSIDE: Halt = Halt::Refused(Refusal {
+/// The answer to words that spell a program of another form.
+const OUTSIDE: Refusal = Refusal {
     rule: Rule::U1,
     place: 0,
-});
+};
 
 /// Reads the program that the data of a SHEX chunk spell.
 ///
-/// Refuses with `U1` at 0 exactly where they spell no straight line.
+/// # Errors
+///
+/// The first rule that is broken of the head and the tokens, by phase, then by place, then by number;
+/// and `U1` at 0 exactly where none is, and the words spell no straight line.
 pub fn read(alloc: Global, bytes: &[u8]) -> Result<Program, Halt>
     requires whole { length bytes.now % 4 ≡ 0 }
     requires head { 8 ≤ length bytes.now }
     requires size { length bytes.now ≤ 16777216 }
-    ensures ok { IfOk result (λ p. IsStraightLine (words_of bytes.now) p) }
-    ensures halted { IfErr result (HaltsBy (IsOutside (words_of bytes.now))) }
+    ensures ok { IfOk result (λ p. IsStraightLine (words_of bytes.now) p.shader) }
+    ensures sound { OnOk result (program_faults (words_of bytes.now) ≡ []) }
+    ensures halted { IfErr result (HaltsBy (IsRefused (words_of bytes.now))) }
 {
-    word_laws();
-    if bytes.len() != 28 {
-        return Err(OUTSIDE);
-    }
-    if !returns_at_once(bytes) {
-        return Err(OUTSIDE);
-    }
-    shortest(alloc, bytes)
-}
-
-/// Whether the words declare a thread group and return, and do no more.
-fn returns_at_once(bytes: &[u8]) -> bool
-    requires { length bytes.now ≡ 28 }
-    ensures { IsTrue result ↔ ReturnsAtOnce (words_of bytes.now) }
-{
-    word_laws();
-    let group = word_at(bytes, 2);
-    let last = word_at(bytes, 6);
-    if word_at(bytes, 0) != VERSION || word_at(bytes, 1) != 7 {
-        return false;
-    }
-    if !is_token(group, THREAD_GROUP, 4) || !is_token(last, RETURN, 1) {
-        return false;
-    }
-    is_thread_group(word_at(bytes, 3), word_at(bytes, 4), word_at(bytes, 5))
-}
-
-/// Whether a word is the opcode token of an instruction of that length, with no extended token.
-fn is_token(word: u32, code: u32, length: u32) -> bool
-    ensures { IsTrue result ↔ IsToken word code length }
-{
-    field(word, 10, 0) == code && field(word, 30, 24) == length && field(word, 31, 31) == 0
-}
-
-/// Whether a thread group may have these sizes.
-fn is_thread_group(x: u32, y: u32, z: u32) -> bool
-    ensures { result ≡ is_group x y z }
-{
-    (1..=1024).contains(&x) && (1..=1024).contains(&y) && (1..=64).contains(&z) && x * y * z <= 1024
-}
-
-/// The instruction of an opcode token that names no operand.
-fn bare(place: u32, token: u32, code: u32) -> Instruction
-    ensures { IsReturn place token code result }
-{
-    Instruction {
-        place,
-        length: 1,
-        code,
-        controls: 2048 * field(token, 23, 11),
-        count: 0,
-        o0: NOTHING,
-        o1: NOTHING,
-        o2: NOTHING,
-        o3: NOTHING,
-        o4: NOTHING,
-    }
-}
-
-/// The program of words that declare a thread group and return.
-fn shortest(alloc: Global, bytes: &[u8]) -> Result<Program, Halt>
-    requires size { length bytes.now ≡ 28 }
-    requires form { ReturnsAtOnce (words_of bytes.now) }
-    ensures ok { IfOk result (λ p. IsStraightLine (words_of bytes.now) p) }
-    ensures halted { IfErr result (λ h. h ≡ Halt.NoMemory) }
-{
-    word_laws();
-    let declared = Declared {
-        place: 2,
-        what: Declaration::Group {
-            x: word_at(bytes, 3),
-            y: word_at(bytes, 4),
-            z: word_at(bytes, 5),
-        },
+    first_laws();
+    let words = match header(bytes) {
+        Ok(words) => words,
+        Err(refusal) => return Err(Halt::Refused(refusal)),
     };
-    let instruction = bare(6, word_at(bytes, 6), RETURN);
-    let declarations = Vec::from_slice(alloc, &[declared]).map_err(|_| Halt::NoMemory)?;
-    let instructions = Vec::from_slice(alloc, &[instruction]).map_err(|_| Halt::NoMemory)?;
-    Ok(Program {
-        words: 7,
-        declarations,
-        constants: Vec::new(alloc),
-        instructions,
-    })
+    let mut program = match Program::make(alloc, words) {
+        Ok(program) => program,
+        Err(_) => return Err(Halt::NoMemory),
+    };
+    match fill(&mut program, bytes, words) {
+        Ok(()) => Ok(program),
+        Err(refusal) => Err(Halt::Refused(refusal)),
+    }
+}
+
+/// Reads the program that the data of a SHEX chunk spell into one that was made before, in place of
+/// what it held. It takes no memory. The second word of the data, the program's length in words, is
+/// at most the room.
+///
+/// # Errors
+///
+/// The first rule that is broken of the head and the tokens, by phase, then by place, then by number;
+/// and `U1` at 0 exactly where none is, and the words spell no straight line. The program is then
+/// empty, as it was made.
+pub fn read_into(program: &mut Program, bytes: &[u8]) -> Result<(), Refusal>
+    requires whole { length bytes.now % 4 ≡ 0 }
+    requires head { 8 ≤ length bytes.now }
+    requires size { length bytes.now ≤ 16777216 }
+    requires room { slice_index (words_of bytes.now) 1 ≤ program.old.room }
+    ensures ok { OnOk result (IsStraightLine (words_of bytes.now) program.new.shader) }
+    ensures sound { OnOk result (program_faults (words_of bytes.now) ≡ []) }
+    ensures refused { IfErr result (IsFirst (IsRefused (words_of bytes.now))) }
+    ensures empty { IfErr result (λ r. program.new.shader ≡ empty) }
+    ensures room { program.new.room ≡ program.old.room }
+{
+    match read_over(program, bytes) {
+        Ok(()) => Ok(()),
+        Err(refusal) => {
+            program.begin(0);
+            Err(refusal)
+        }
+    }
+}
+
+/// Reads a program into one that was made before, and leaves there what was read so far where the
+/// words are refused.
+fn read_over(program: &mut Program, bytes: &[u8]) -> Result<(), Refusal>
+    requires head { 8 ≤ length bytes.now }
+    requires room { slice_index (words_of bytes.now) 1 ≤ program.old.room }
+    ensures ok { OnOk result (IsStraightLine (words_of bytes.now) program.new.shader) }
+    ensures sound { OnOk result (program_faults (words_of bytes.now) ≡ []) }
+    ensures refused { IfErr result (IsFirst (IsRefused (words_of bytes.now))) }
+    ensures room { program.new.room ≡ program.old.room }
+{
+    first_laws();
+    match header(bytes) {
+        Ok(words) => fill(program, bytes, words),
+        Err(refusal) => Err(refusal),
+    }
+}
+
+/// Reads the straight line whose head is sound into a program with room for it.
+fn fill(program: &mut Program, bytes: &[u8], words: u32) -> Result<(), Refusal>
+    requires head { None ≡ first (header_faults (words_of bytes.now)) }
+    requires count { words ≡ slice_index (words_of bytes.now) 1 }
+    requires room { words ≤ program.old.room }
+    ensures ok { OnOk result (IsStraightLine (words_of bytes.now) program.new.shader) }
+    ensures sound { OnOk result (program_faults (words_of bytes.now) ≡ []) }
+    ensures refused { IfErr result (IsFirst (IsRefused (words_of bytes.now))) }
+    ensures room { program.new.room ≡ program.old.room }
+{
+    first_laws();
+    spelled(program, bytes, words)?;
+    if !is_straight_line(program) {
+        return Err(OUTSIDE);
+    }
+    Ok(())
+}
+
+/// Reads any program of the base profile whose head is sound into one with room for it.
+///
+/// Refuses by the first broken rule of its tokens, by place, then by number.
+pub(crate) fn spelled(program: &mut Program, bytes: &[u8], words: u32) -> Result<(), Refusal>
+    requires head { None ≡ first (header_faults (words_of bytes.now)) }
+    requires count { words ≡ slice_index (words_of bytes.now) 1 }
+    requires room { words ≤ program.old.room }
+    ensures ok { OnOk result (Spells program.new.shader (words_of bytes.now)) }
+    ensures size { OnOk result (program.new.shader.words ≤ 65536) }
+    ensures sound { OnOk result (first (program_faults (words_of bytes.now)) ≡ None) }
+    ensures refused { IfErr result (λ r. first (program_faults (words_of bytes.now)) ≡ Some r) }
+    ensures room { program.new.room ≡ program.old.room }
+{
+    program.begin(words);
+    let mut at = 2;
+    while at < words {
+        at = take_piece(program, bytes, at)?;
+    }
+    Ok(())
+}
+
+/// Adds what stands at a place, and gives the place behind it.
+fn take_piece(program: &mut Program, bytes: &[u8], at: u32) -> Result<u32, Refusal>
+    requires head { 2 ≤ at }
+    requires inside { at < program.now.shader.words }
+    requires words { program.now.shader.words ≤ length (words_of bytes.now) }
+    requires size { program.now.shader.words ≤ 65536 }
+    requires room { program.now.shader.words ≤ program.now.room }
+    requires read { IsReadTo (words_of bytes.now) at program.now.shader }
+    ensures words { IfOk result (λ end. program.new.shader.words ≡ program.old.shader.words) }
+    ensures within { IfOk result (λ end. (at < end) × (end ≤ program.old.shader.words)) }
+    ensures read { IfOk result (λ end. IsReadTo (words_of bytes.now) end program.new.shader) }
+    ensures refused { IfErr result (λ r. first (body_faults 0 at (words_between bytes.now at program.old.shader.words)) ≡ Some r) }
+    ensures room { program.new.room ≡ program.old.room }
+{
+    let (piece, end) = match read_piece(bytes, program.words, at) {
+        Ok(found) => found,
+        Err(refusal) => return Err(first_reached(bytes, program.words, at, refusal)),
+    };
+    match piece {
+        Piece::Declaration(declared) => {
+            add_declaration(program, declared);
+            Ok(end)
+        }
+        Piece::Instruction(instruction) => {
+            add_instruction(program, instruction);
+            Ok(end)
+        }
+        Piece::Constants => {
+            add_constants(program, bytes, at, end);
+            Ok(end)
+        }
+        Piece::Nothing => Ok(end),
+    }
+}
+
+fn add_declaration(program: &mut Program, declared: Declared)
+    requires { length program.now.shader.declarations < program.now.room }
+    ensures { program.new ≡ record program.old { shader = record program.old.shader { declarations = program.old.shader.declarations ++ declared ∷ [] } } }
+{
+    program.declarations.push(declared);
+}
+
+fn add_instruction(program: &mut Program, instruction: Instruction)
+    requires room { length program.now.shader.instructions < program.now.room }
+    requires few { length program.now.shader.instructions < 65536 }
+    ensures { program.new ≡ record program.old { shader = record program.old.shader { instructions = program.old.shader.instructions ++ instruction ∷ [] } } }
+{
+    program.instructions.push(instruction);
+}
+
+/// Adds words from a place to another.
+fn add_words(words: &mut Pool<u32>, bytes: &[u8], start: u32, end: u32)
+    requires order { start ≤ end }
+    requires words { end ≤ length (words_of bytes.now) }
+    requires room { length words.now.list + (end - start) ≤ words.now.capacity }
+    ensures added { words.new.list ≡ words.old.list ++ words_between bytes.now start end }
+    ensures capacity { words.new.capacity ≡ words.old.capacity }
+{
+    for place in start..end {
+        words.push(word(bytes, place));
+    }
+}
+
+/// Adds an immediate constant buffer, which counts as a declaration.
+fn add_constants(program: &mut Program, bytes: &[u8], at: u32, end: u32)
+    requires order { at + 2 ≤ end }
+    requires words { end ≤ length (words_of bytes.now) }
+    requires room { length program.now.shader.constants + (end - (at + 2)) ≤ program.now.room }
+    requires room_behind { length program.now.shader.declarations < program.now.room }
+    ensures { program.new ≡ record program.old {
+      shader = record program.old.shader {
+        constants = program.old.shader.constants ++ words_between bytes.now (at + 2) end;
+        declarations = program.old.shader.declarations ++ listed at (words_between bytes.now (at + 2) end) ∷ [];
+      };
+    } }
+{
+    add_words(&mut program.constants, bytes, at + 2, end);
+    let vectors = (end - at - 2) / 4;
+    add_declaration(
+        program,
+        Declared {
+            place: at,
+            what: Declaration::ImmediateConstants { vectors },
+        },
+    );
 }
