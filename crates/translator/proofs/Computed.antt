@@ -1,6 +1,18 @@
 -- A run that is found by computation has its value.
 use Rattle.std.proofs.Common.{◌≡◌, ℕ, zero, suc, Bool, true, false, List, [], ◌∷◌, Option, Some, None, inl, inr, refl, sym, ap}
 use Rattle.word_base.specs.Lanes.{Turn, Silent, Asks, Ends, Wrong, Meets}
+use Rattle.word_base.specs.Lanes.{Standing}
+use Rattle.word_base.specs.Settings.{Setting}
+use Rattle.tpf_program.specs.Bytecode as bytecode
+use Rattle.tpf_program.specs.Declarations.{threads_in}
+use Rattle.tpf_program.specs.Program.{Shader}
+use Rattle.spirv_words.specs.Text.{Module}
+use Rattle.spirv_words.specs.Globals.{Places}
+use Rattle.spirv_words.specs.Lane as lane
+use Rattle.translator.specs.Bindings.{Binding, places_of}
+use Rattle.translator.specs.Dispatch.{Dispatch, Shares, setting_of, at_start, shared_machine}
+use Rattle.translator.specs.SameRuns.{ProgramRuns, ModuleRuns}
+use Rattle.translator.specs.WrongExamples.{loud_or, loud_in}
 use Rattle.translator.specs.Runs.{Machine, Picked, HasValue, moved}
 use Rattle.translator.specs.RunExamples.{stop_of, next_in, Stand, stand, taken, picked, run_on, run_in}
 
@@ -51,3 +63,32 @@ has_value m bound step [] s value h = sym (cc)
 has_value m bound step (lane ∷ picks) s value h =
     by_pick m step s lane picks value (run_in m bound step picks) (picked (m.is_idle s.shared lane) m bound step s lane)
     (λ t. by_idle m bound step s t lane (m.is_idle s.shared lane)) (λ t. has_value m bound step picks t value) h
+
+-- a turn that is found by computation, wrong or not, is met
+by_loud : {S : Type 0} (step : S → Turn S) (n : ℕ) (s : S) (turn t : Turn S) → step s ≡ t
+    → ((to : S) → loud_in n step to ≡ Some turn → Meets step to turn)
+    → loud_or t (loud_in n step) ≡ Some turn → Meets step s turn
+by_loud step n s turn (Silent to) e ih h = further step s to turn e (ih to h)
+by_loud step n s turn (Asks event after) e ih h = (0, (s, refl, cc))
+by_loud step n s turn Ends e ih h = (0, (s, refl, cc))
+by_loud step n s turn (Wrong place rule) e ih h = (0, (s, refl, cc))
+
+pub loud : {S : Type 0} (step : S → Turn S) (n : ℕ) (s : S) (turn : Turn S) → loud_in n step s ≡ Some turn → Meets step s turn
+loud step zero s turn h = absurd (cc)
+loud step (suc n) s turn h = by_loud step n s turn (step s) refl (λ to. loud step n to turn) h
+
+-- the same of modules
+pub loud_module : (m : Module) (places : Places) (setting : Setting) (n : ℕ) (turn : Turn (Standing lane.State))
+    → loud_in n (lane.lane m places setting) (lane.start m places setting) ≡ Some turn → Meets (lane.lane m places setting) (lane.start m places setting) turn
+loud_module m places setting n turn h = loud (lane.lane m places setting) n (lane.start m places setting) turn h
+
+pub run_of_module : (p : Shader) (bindings : List Binding) (m : Module) (d : Dispatch) (n : ℕ) (picks : List ℕ) (value : Shares)
+    → run_in (shared_machine (threads_in p.declarations)) n (λ l. lane.lane m (places_of p bindings) (setting_of p d l)) picks
+    (stand (λ l. lane.start m (places_of p bindings) (setting_of p d l)) (at_start d)) ≡ Some value
+    → ModuleRuns p bindings m d picks value
+run_of_module p bindings m d n picks value h = has_value _ n _ picks _ value h
+
+pub run_of_program : (p : Shader) (d : Dispatch) (n : ℕ) (picks : List ℕ) (value : Shares)
+    → run_in (shared_machine (threads_in p.declarations)) n (λ l. bytecode.step p (setting_of p d l)) picks (stand (λ l. bytecode.start) (at_start d)) ≡ Some value
+    → ProgramRuns p d picks value
+run_of_program p d n picks value h = has_value _ n _ picks _ value h

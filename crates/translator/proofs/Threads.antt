@@ -1,19 +1,15 @@
 -- The threads of the first group declared.
-use Rattle.std.proofs.Common.{◌≡◌, ℕ, zero, suc, ◌+◌, List, [], ◌∷◌, drop, Some, refl, sym, ap, ◌∙◌, arith}
+use Rattle.std.proofs.Common.{◌≡◌, ℕ, ◌+◌, List, drop, Some, refl, sym, ap, ◌∙◌}
 use Rattle.std.specs.Prelude.{slice_get}
 use Rattle.tpf_program.specs.declared.declaration.Declaration.{Declaration}
 use Rattle.tpf_program.specs.declared.declaration.Declaration.TheVariants.{Flags, Constants, Resource, Uav, Shared, Input, Temps, Indexable, Group, ImmediateConstants}
 use Rattle.tpf_program.specs.declared.declaration.Declared.{Declared}
 use Rattle.tpf_program.specs.Declarations.{Threads, threads_in, threads_declared}
-
-drop_at : (ds : List Declared) (i : ℕ) (d : Declared) → slice_get ds i ≡ Some d → drop i ds ≡ d ∷ drop (i + 1) ds
-drop_at [] i d h = absurd (cc)
-drop_at (x ∷ ds) zero d h = let e : x ≡ d = cc in ap (λ y. y ∷ ds) e
-drop_at (x ∷ ds) (suc i) d h = drop_at ds i d h ∙ ap (λ k. d ∷ drop k (x ∷ ds)) (let e : suc (i + 1) ≡ suc i + 1 = omega arith in e)
+use Rattle.translator.proofs.Sizes.{at_index}
 
 pub at_group : (ds : List Declared) (i : ℕ) (d : Declared) (x y z : ℕ) → slice_get ds i ≡ Some d → d.what ≡ Group x y z → threads_in (drop i ds) ≡ threads_in ds
     → record { x = x; y = y; z = z } ≡ threads_in ds
-at_group ds i d x y z h g k = sym (ap (λ w. threads_declared w (threads_in (drop (i + 1) ds))) g) ∙ (sym (ap threads_in (drop_at ds i d h)) ∙ k)
+at_group ds i d x y z h g k = sym (ap (λ w. threads_declared w (threads_in (drop (i + 1) ds))) g) ∙ (sym (ap threads_in (at_index ds i d h)) ∙ k)
 
 no_group : (w : Declaration) (others : Threads) → ((x y z : ℕ) → w ≡ Group x y z → ⊥) → threads_declared w others ≡ others
 no_group (Flags a) others h = refl
@@ -29,4 +25,4 @@ no_group (ImmediateConstants a) others h = refl
 
 pub at_other : (ds : List Declared) (i : ℕ) (d : Declared) → slice_get ds i ≡ Some d → ((x y z : ℕ) → d.what ≡ Group x y z → ⊥) → threads_in (drop i ds) ≡ threads_in ds
     → threads_in (drop (i + 1) ds) ≡ threads_in ds
-at_other ds i d h g k = sym (no_group d.what (threads_in (drop (i + 1) ds)) g) ∙ (sym (ap threads_in (drop_at ds i d h)) ∙ k)
+at_other ds i d h g k = sym (no_group d.what (threads_in (drop (i + 1) ds)) g) ∙ (sym (ap threads_in (at_index ds i d h)) ∙ k)

@@ -1,152 +1,95 @@
--- What a translation answers.
-use Rattle.std.proofs.Common.{◌≡◌, ℕ, zero, suc, ◌+◌, ◌<◌, inl, inr, ⊎_elim, List, [], ◌∷◌, ◌++◌, length, Bool, true, false, Some, None, refl, sym, ap, ◌∙◌, subst, arith}
-use Rattle.std.specs.Prelude.{IsTrue, Contains, nat_lt, not, ◌&&◌, filter, map}
-use Rattle.std.specs.List.{list_all, filter_map}
-use Rattle.word_base.specs.Words.{words_of}
-use Rattle.word_base.specs.declared.rule.Refusal.{Refusal}
-use Rattle.word_base.specs.declared.rule.Halt.{Halt}
-use Rattle.word_base.specs.declared.rule.Halt.TheVariants.{Refused, NoMemory}
-use Rattle.word_base.specs.Rules.{IsFirst, IsSound, HaltsBy, first}
-use Rattle.dxbc_container.specs.Chunks.{IsShex}
-use Rattle.dxbc_container.specs.Refusals.{shex_refusals}
-use Rattle.tpf_program.specs.declared.declaration.Declaration.{Declaration}
-use Rattle.tpf_program.specs.declared.declaration.Declaration.TheVariants.{Flags, Constants, Resource, Uav, Shared, Input, Temps, Indexable, Group, ImmediateConstants}
-use Rattle.tpf_program.specs.declared.declaration.Declared.{Declared}
-use Rattle.tpf_program.specs.declared.instruction.Instruction.{Instruction}
-use Rattle.tpf_program.specs.Declarations.{Threads, threads_in}
-use Rattle.tpf_program.specs.Extents.{shared_extent, words_declared}
+-- What a translation answers: the module means the program.
+use Rattle.std.proofs.Common.{◌≡◌, ℕ, [], ◌++◌, map, IsTrue, sym, ap, ◌∙◌, subst}
+use Rattle.std.specs.List.{list_all}
+use Rattle.word_base.specs.declared.event.Room.TheVariants as room
+use Rattle.word_base.specs.Lanes.{SameLanes}
+use Rattle.word_base.specs.Settings.{Setting}
+use Rattle.tpf_program.specs.Bytecode as bytecode
+use Rattle.tpf_program.specs.Declarations.{Threads}
+use Rattle.tpf_program.specs.Extents.{shared_extent}
+use Rattle.tpf_program.specs.Holding.{IsProgramOfWords}
 use Rattle.tpf_program.specs.Program.{Shader}
-use Rattle.tpf_program.specs.StraightLine.{is_built, is_built_code, returns, ReturnsAtEnd, IsStraightLine, IsOutside}
-use Rattle.spirv_words.specs.Text.{is_instr, is_version, header_of, words_of_code}
-use Rattle.spirv_words.specs.Sections.{sized}
-use Rattle.spirv_words.specs.Variables.{nothing_wanted}
-use Rattle.spirv_words.specs.Form.{Form}
-use Rattle.spirv_words.specs.Smallest.{smallest}
-use Rattle.translator.specs.Bindings.{numbers_from, shared_slots}
-use Rattle.translator.specs.Input.{IsBroken, SpellsNone}
-use Rattle.translator.specs.Means.{Means}
-use Rattle.translator.specs.Wanted.{wanted_of, group_of, input_of}
-use Rattle.translator.proofs.Follows.{follows, shaped}
+use Rattle.tpf_program.specs.StraightLine.{is_built_in}
+use Rattle.translator.specs.ModuleShape.{HasShape}
+use Rattle.translator.proofs.Items.{store_item, items_are, slots_last}
+use Rattle.translator.proofs.Rooms.{named_words, filled}
+use Rattle.spirv_words.specs.Globals.{filled_slots}
+use Rattle.spirv_words.specs.Lane as lane
+use Rattle.spirv_words.specs.Text.{Module}
+use Rattle.translator.specs.declared.emission.Emitter.{Emitter}
+use Rattle.translator.specs.declared.names.Name.TheVariants as name
+use Rattle.translator.specs.Bindings as bindings
+use Rattle.translator.specs.Bindings.{Binding, places_of, numbers_from, Fits}
+use Rattle.translator.specs.Emission.{LoweredIn}
+use Rattle.translator.specs.Finished.{shared_slots, shared_words}
+use Rattle.translator.specs.Found.{Has, shared_in}
+use Rattle.translator.specs.Lowered.{Lowered, all_slots}
+use Rattle.translator.specs.Parts.{module_of}
+use Rattle.translator.specs.Raised.{AreAllOfWords, size_of}
+use Rattle.translator.specs.Terms.{stand, step, no_words}
+use Rattle.translator.proofs.Composed.{composed}
+use Rattle.translator.proofs.Declared.{slots_of_shared, words_of_shared}
+use Rattle.translator.proofs.EmitComplete.{Finished, finished}
+use Rattle.translator.proofs.FormSorts.{whole}
+use Rattle.translator.proofs.ModuleShapedItems.{shape}
+use Rattle.translator.proofs.ModuleStartBegins.{begins}
+use Rattle.translator.proofs.RaiseLanes.{program_lane}
+use Rattle.translator.proofs.RaiseLaws.{LeavesWords}
 
--- A program of groups alone wants no variables.
-both : (a b : Bool) → IsTrue (a && b) → IsTrue a × IsTrue b
-both true b h = (refl, h)
-both false b h = absurd (cc)
+-- THE NAMES of a finished body are those with which it began, as far as they are of shared memory.
+module _ (p : Shader) (e : Emitter) (l : Lowered p e) where
+  shared_same : shared_in e.names.items ≡ shared_in l.begin.names.items
+  shared_same = l.covers.lowers.grows.shared
 
-no_words : (slot : ℕ) (what : Declaration) → IsTrue (is_built what) → words_declared slot what ≡ 0
-no_words slot (Flags a) h = absurd (cc)
-no_words slot (Constants a b) h = absurd (cc)
-no_words slot (Resource a b) h = absurd (cc)
-no_words slot (Uav a b c d) h = absurd (cc)
-no_words slot (Shared a b) h = absurd (cc)
-no_words slot (Input a b) h = absurd (cc)
-no_words slot (Temps a) h = absurd (cc)
-no_words slot (Indexable a b c) h = absurd (cc)
-no_words slot (Group x y z) h = refl
-no_words slot (ImmediateConstants a) h = absurd (cc)
+  pub slots_are : shared_slots e.names.items ≡ bindings.shared_slots p
+  slots_are = slots_of_shared e.names.items ∙ (ap shared_slots shared_same ∙ (sym (slots_of_shared l.begin.names.items) ∙ l.begun.slots))
 
-no_input : (what : Declaration) → IsTrue (is_built what) → input_of what ≡ None
-no_input (Flags a) h = absurd (cc)
-no_input (Constants a b) h = absurd (cc)
-no_input (Resource a b) h = absurd (cc)
-no_input (Uav a b c d) h = absurd (cc)
-no_input (Shared a b) h = absurd (cc)
-no_input (Input a b) h = absurd (cc)
-no_input (Temps a) h = absurd (cc)
-no_input (Indexable a b c) h = absurd (cc)
-no_input (Group x y z) h = refl
-no_input (ImmediateConstants a) h = absurd (cc)
+  pub words_are : shared_words e.names.items ≡ map (λ slot. shared_extent slot p.declarations) (bindings.shared_slots p)
+  words_are = words_of_shared e.names.items ∙ (ap shared_words shared_same ∙ (sym (words_of_shared l.begin.names.items) ∙ l.begun.words))
 
-no_extent : (slot : ℕ) (ds : List Declared) → IsTrue (list_all (λ d. is_built d.what) ds) → shared_extent slot ds ≡ 0
-no_extent slot [] h = refl
-no_extent slot (d ∷ ds) h =
-    let a = both (is_built d.what) (list_all (λ e. is_built e.what) ds) h in
-    rw (no_words slot d.what a.0) (no_extent slot ds a.1)
+  lines_are : e.lines.items ≡ l.covers.lowers.seg
+  lines_are = l.covers.lowers.grows.lines ∙ ap (λ x. x ++ l.covers.lowers.seg) l.begun.lines
 
-no_inputs : (ds : List Declared) → IsTrue (list_all (λ d. is_built d.what) ds) → filter_map (λ d. input_of d.what) ds ≡ []
-no_inputs [] h = refl
-no_inputs (d ∷ ds) h =
-    let a = both (is_built d.what) (list_all (λ e. is_built e.what) ds) h in
-    rw (no_input d.what a.0) (no_inputs ds a.1)
+  size_is : e.registers ≡ size_of p
+  size_is = l.covers.lowers.grows.registers ∙ l.begun.registers
 
-no_slots : (ds : List Declared) → IsTrue (list_all (λ d. is_built d.what) ds) → (k n : ℕ) → filter (λ slot. nat_lt 0 (shared_extent slot ds)) (numbers_from n k) ≡ []
-no_slots ds h zero n = refl
-no_slots ds h (suc k) n = rw (no_extent n ds h) (no_slots ds h k (n + 1))
+  pub whole_lines : Finished e l.covers.chain
+  whole_lines = finished l.begin e l.covers.chain l.covers.lowers l.begun.lines
 
-wants : (shared inputs : List ℕ) → shared ≡ [] → inputs ≡ [] → nothing_wanted ≡ record { buffers = []; uniforms = []; push = None; shared = shared; inputs = inputs }
-wants shared inputs h k = rw (h, k) refl
+  lowered_here : LoweredIn (size_of p) e.names.items l.covers.chain e.lines.items
+  lowered_here = subst (λ n. LoweredIn n e.names.items l.covers.chain e.lines.items) size_is whole_lines.lowered
 
-wants_nothing : (p : Shader) → IsTrue (list_all (λ d. is_built d.what) p.declarations) → nothing_wanted ≡ wanted_of p []
-wants_nothing p h =
-    wants (map (λ slot. shared_extent slot p.declarations) (shared_slots p)) (filter_map (λ d. input_of d.what) p.declarations)
-    (ap (map (λ slot. shared_extent slot p.declarations)) (no_slots p.declarations h 64 0)) (no_inputs p.declarations h)
+  -- UNDER A SETTING that fits the program.
+  module _ (setting : Setting) (fits : Fits p [] setting) where
+    abbrev m : Threads → Module
+    m t = module_of t e.names.items e.next e.lines.items
 
--- The last instruction is the only one.
-none_left : (before : List Instruction) (last : Instruction) → IsTrue (list_all is_built_code (before ++ last ∷ [])) → IsTrue (list_all (λ i. not (returns i)) before) → before ≡ []
-none_left [] last h k = refl
-none_left (x ∷ xs) last h k =
-    let a = both (returns x) (list_all is_built_code (xs ++ last ∷ [])) h in
-    let b = both (not (returns x)) (list_all (λ i. not (returns i)) xs) k in
-    absurd (let e : not (returns x) ≡ false = ap not a.0 in cc)
+    extents : (slot : ℕ) → setting.extent (room.Shared slot) ≡ shared_extent slot p.declarations
+    extents slot = fits.rooms.extents (room.Shared slot)
 
-alone : (is : List Instruction) → IsTrue (list_all is_built_code is) → ReturnsAtEnd is → (i : Instruction) × (is ≡ i ∷ []) × IsTrue (returns i)
-alone is h e =
-    let n = none_left e.0 e.1 (subst (λ l. IsTrue (list_all is_built_code l)) e.2 h) e.4 in
-    (e.1, e.2 ∙ ap (λ l. l ++ e.1 ∷ []) n, e.3)
+    rooms : (slot words id : ℕ) → Has e.names.items (name.Shared slot words) id → setting.extent (room.Shared slot) ≡ words
+    rooms slot words id h =
+        extents slot
+        ∙ sym (named_words (λ s. shared_extent s p.declarations) e.names.items slot words id (words_are ∙ ap (map (λ s. shared_extent s p.declarations)) (sym slots_are)) h)
 
--- The module means the program.
-pub meant : (bytes content words : List ℕ) (p : Shader) (t : Threads)
-    → ((version x y z : ℕ) → IsTrue (is_version version) → Form version (sized x y z) nothing_wanted (smallest version x y z))
-    → ((version x y z : ℕ) → IsTrue (list_all is_instr (smallest version x y z).code))
-    → IsShex bytes content → IsStraightLine (words_of content) p → t ≡ threads_in p.declarations
-    → words ≡ header_of (smallest 0x00010300 t.x t.y t.z) ++ words_of_code (smallest 0x00010300 t.x t.y t.z).code
-    → Means bytes [] 0x00010300 words
-meant bytes content words p t form instructions chunk line threads whole =
-    let one = alone p.instructions line.instructions line.end in
-    record {
-      content = content;
-      program = p;
-      target = smallest 0x00010300 t.x t.y t.z;
-      chunk = chunk;
-      spelled = line.spelled;
-      text = record { version = refl; is_text = whole; instructions = instructions 0x00010300 t.x t.y t.z };
-      form =
-          subst (λ w. Form 0x00010300 (group_of p) w (smallest 0x00010300 t.x t.y t.z)) (wants_nothing p line.declarations)
-          (subst (λ (g : Threads). Form 0x00010300 (sized g.x g.y g.z) nothing_wanted (smallest 0x00010300 t.x t.y t.z)) threads (form 0x00010300 t.x t.y t.z refl));
-      shape = shaped t.x t.y t.z p [] one.0 one.1 one.2;
-      follows = λ setting fits. follows t.x t.y t.z p [] setting one.0 one.1 one.2;
-    }
+    in_order : (t : Threads) → filled_slots (lane.machine (m t) (places_of p []) setting) ≡ shared_slots e.names.items
+    in_order t =
+        filled (λ s. setting.extent (room.Shared s)) (λ s. shared_extent s p.declarations) extents (numbers_from 0 64) ∙ sym slots_are
 
--- The first broken rule.
-not_in_none : (qs : List Refusal) (r : Refusal) → qs ≡ [] → Contains qs r → ⊥
-not_in_none qs r e c = let n : c.0 < length qs = c.1 in let l : length qs ≡ 0 = ap length e in omega arith
+    pub lanes : (t : Threads) → LeavesWords → IsProgramOfWords p → AreAllOfWords p
+        → SameLanes (bytecode.step p setting) (lane.lane (m t) (places_of p []) setting) bytecode.start (lane.start (m t) (places_of p []) setting)
+    lanes t leaves words immediates =
+        let is_whole = whole t e.names.items e.next e.lines.items whole_lines.complete (places_of p []) setting rooms in
+        let lane_of = program_lane p setting l.covers.statements l.front l.last fits.rooms l.split l.ends l.covers.does words immediates leaves in
+        composed p setting (m t) (places_of p []) e.names.items e.lines.items l.covers.chain
+        (subst (λ todo. SameLanes (bytecode.step p setting) (step (size_of p) setting) bytecode.start (stand todo no_words)) (sym (l.covers.pushed [])) lane_of)
+        is_whole (begins t e.names.items e.next e.lines.items whole_lines.complete (places_of p []) setting is_whole (in_order t)) lowered_here
 
-pub no_refusal : (bytes : List ℕ) → ((qs : List Refusal) → first qs ≡ None → qs ≡ []) → None ≡ first (shex_refusals bytes) → shex_refusals bytes ≡ []
-no_refusal bytes none e = none (shex_refusals bytes) (sym e)
-
-pub sound : (bytes content : List ℕ) (p : Shader) → ((bytes a b : List ℕ) → IsShex bytes a → IsShex bytes b → a ≡ b) → shex_refusals bytes ≡ [] → IsShex bytes content
-    → IsStraightLine (words_of content) p → IsSound (IsBroken bytes)
-sound bytes content p single none chunk line q b =
-    ⊎_elim (λ c. not_in_none (shex_refusals bytes) q none c)
-    (λ (s : SpellsNone bytes q). s.outside.none p (subst (λ c. IsStraightLine (words_of c) p) (single bytes content s.content chunk s.chunk) line)) b
-
-pub refused_container : (bytes : List ℕ) (r : Refusal) → ((qs : List Refusal) (q : Refusal) → first qs ≡ Some q → IsFirst (Contains qs) q)
-    → Some r ≡ first (shex_refusals bytes) → IsFirst (IsBroken bytes) r
-refused_container bytes r some e =
-    let f = some (shex_refusals bytes) r (sym e) in
-    record {
-      is_broken = inl f.is_broken;
-      is_least = λ q b.
-          ⊎_elim (λ c. f.is_least q c)
-          (λ (s : SpellsNone bytes q). absurd (not_in_none (shex_refusals bytes) r s.sound f.is_broken)) b;
-    }
-
-pub refused_program : (bytes content : List ℕ) (h : Halt) → ((bytes a b : List ℕ) → IsShex bytes a → IsShex bytes b → a ≡ b) → shex_refusals bytes ≡ [] → IsShex bytes content
-    → HaltsBy (IsOutside (words_of content)) h → HaltsBy (IsBroken bytes) h
-refused_program bytes content (Refused r) single none chunk f = record {
-  is_broken = inr (record { sound = none; content = content; chunk = chunk; outside = f.is_broken });
-  is_least = λ q b.
-      ⊎_elim (λ c. absurd (not_in_none (shex_refusals bytes) q none c))
-      (λ (s : SpellsNone bytes q). f.is_least q (subst (λ c. IsOutside (words_of c) q) (single bytes s.content content s.chunk chunk) s.outside)) b;
-}
-refused_program bytes content NoMemory single none chunk f = f
+  -- THE SHAPE
+  pub shaped : (t : Threads) → IsTrue (list_all (is_built_in p.declarations) p.instructions) → HasShape p [] (module_of t e.names.items e.next e.lines.items)
+  shaped t built = record {
+    items =
+        shape t e.names.items e.next e.lines.items whole_lines.complete (places_of p []) (sym slots_are)
+        ∙ (ap (map store_item) (whole_lines.slots ∙ (l.covers.slots ∙ (sym (slots_last l.front l.last l.ends) ∙ ap all_slots (sym l.split))))
+        ∙ sym (items_are (places_of p []) p.declarations p.instructions built));
+  }

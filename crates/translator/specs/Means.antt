@@ -1,7 +1,7 @@
 -- What a module owes to the program that it was translated from.
 use Rattle.std.specs.Prelude.{ℕ, List}
 use Rattle.word_base.specs.Words.{words_of}
-use Rattle.word_base.specs.Lanes.{Forward, NeverWrong}
+use Rattle.word_base.specs.Lanes.{SameLanes}
 use Rattle.word_base.specs.Settings.{Setting}
 use Rattle.dxbc_container.specs.Chunks.{IsShex}
 use Rattle.tpf_program.specs.Program.{Shader}
@@ -12,16 +12,17 @@ use Rattle.spirv_words.specs.Lane as lane
 use Rattle.spirv_words.specs.Form.{Form}
 use Rattle.translator.specs.Bindings.{Binding, places_of, Fits}
 use Rattle.translator.specs.ModuleShape.{HasShape}
+use Rattle.translator.specs.SameRuns.{SameRuns}
 use Rattle.translator.specs.Wanted.{group_of, wanted_of}
 
--- Under one setting the module's lane makes the events of the program's lane in the same order, ends where it ends, and is never wrong,
--- whatever the answers are.
-pub record FollowsIn (p : Shader) (bindings : List Binding) (m : Module) (setting : Setting) : Type 0 where
-  pub forward : Forward (bytecode.step p setting) (lane.lane m (places_of p bindings) setting) bytecode.start (lane.start m (places_of p bindings) setting)
-  pub never_wrong : NeverWrong (lane.lane m (places_of p bindings) setting) (lane.start m (places_of p bindings) setting)
+-- Under one setting nobody can tell the module's lane from the program's: under every list of answers both make the same events in the same
+-- order, end together and spin together, and the module's is never wrong.
+abbrev pub FollowsIn : Shader → List Binding → Module → Setting → Type 0
+FollowsIn p bindings m setting =
+    SameLanes (bytecode.step p setting) (lane.lane m (places_of p bindings) setting) bytecode.start (lane.start m (places_of p bindings) setting)
 
 -- The words are a module of that version, which has the form of one, the shape of the program that the chunk `SHEX` of the bytes spells,
--- and does what that program does, under the binding map.
+-- and does what that program does, under the binding map: lane by lane, and so in every dispatch, under every list of picks.
 pub record Means (bytes : List ℕ) (bindings : List Binding) (version : ℕ) (words : List ℕ) : Type 0 where
   pub content : List ℕ
   pub program : Shader
@@ -32,3 +33,4 @@ pub record Means (bytes : List ℕ) (bindings : List Binding) (version : ℕ) (w
   pub form : Form version (group_of program) (wanted_of program bindings) target
   pub shape : HasShape program bindings target
   pub follows : (setting : Setting) → Fits program bindings setting → FollowsIn program bindings target setting
+  pub runs : SameRuns program bindings target

@@ -1,16 +1,24 @@
 ghost use Rattle.std.specs.Prelude.{◌≡◌, ℕ, List, [], ◌∷◌, ◌++◌, IsTrue};
-ghost use Rattle.word_base.specs.Lanes.{Turn};
+ghost use Rattle.std.specs.Prelude.{Some};
+ghost use Rattle.word_base.specs.Lanes.{Turn, Standing, Meets};
+ghost use Rattle.word_base.specs.Settings.{Setting};
+ghost use Rattle.tpf_program.specs.Bytecode as bytecode;
+ghost use Rattle.tpf_program.specs.Declarations.{threads_in};
+ghost use Rattle.spirv_words.specs.Text.{Module};
+ghost use Rattle.spirv_words.specs.Globals.{Places};
+ghost use Rattle.spirv_words.specs.Lane as lane;
 ghost use Rattle.tpf_program.specs.declared.instruction.Instruction.{Instruction as Spelled};
 ghost use Rattle.tpf_program.specs.Bytecode.{State};
 ghost use Rattle.tpf_program.specs.Program.{Shader};
 ghost use Rattle.tpf_program.specs.StraightLine.{returns};
 ghost use Rattle.spirv_words.specs.Smallest.{smallest};
-ghost use Rattle.translator.specs.Bindings.{Binding};
-ghost use Rattle.translator.specs.Dispatch.{Shares, IsDispatch};
+ghost use Rattle.translator.specs.Bindings.{Binding, places_of};
+ghost use Rattle.translator.specs.Dispatch.{Dispatch, Shares, IsDispatch, setting_of, at_start, shared_machine};
 ghost use Rattle.translator.specs.Runs.{Machine, HasValue, Leads};
-ghost use Rattle.translator.specs.RunExamples.{summing, one_group, in_turns};
-ghost use Rattle.translator.specs.SameRuns.{SameRuns, ProgramRuns};
+ghost use Rattle.translator.specs.RunExamples.{summing, one_group, in_turns, run_in, stand};
+ghost use Rattle.translator.specs.SameRuns.{SameRuns, ProgramRuns, ModuleRuns};
 ghost use Rattle.translator.specs.ShapeExamples.{u0_bound};
+ghost use Rattle.translator.specs.WrongExamples.{loud_in};
 
 /// What holds of runs over picks, for the proofs of callers. It does nothing when it runs.
 ///
@@ -35,4 +43,19 @@ pub fn dispatch_laws()
     ensures same { (x y z : ℕ) (p : Shader) (bindings : List Binding) (i : Spelled) → p.instructions ≡ i ∷ [] → IsTrue (returns i) → SameRuns p bindings (smallest 0x00010300 x y z) }
     ensures dispatch { IsDispatch summing u0_bound one_group }
     ensures run { (value : Shares) × ProgramRuns summing one_group in_turns value }
+{}
+
+/// What turns and runs that are found by computation say of lanes and dispatches, for the examples.
+/// It does nothing when it runs.
+pub fn example_laws()
+    ensures turn { (m : Module) (places : Places) (setting : Setting) (n : ℕ) (turn : Turn (Standing lane.State))
+        → loud_in n (lane.lane m places setting) (lane.start m places setting) ≡ Some turn → Meets (lane.lane m places setting) (lane.start m places setting) turn }
+    ensures module_run { (p : Shader) (bindings : List Binding) (m : Module) (d : Dispatch) (n : ℕ) (picks : List ℕ) (value : Shares)
+        → run_in (shared_machine (threads_in p.declarations)) n (λ l. lane.lane m (places_of p bindings) (setting_of p d l)) picks
+        (stand (λ l. lane.start m (places_of p bindings) (setting_of p d l)) (at_start d)) ≡ Some value
+        → ModuleRuns p bindings m d picks value }
+    ensures program_run { (p : Shader) (d : Dispatch) (n : ℕ) (picks : List ℕ) (value : Shares)
+        → run_in (shared_machine (threads_in p.declarations)) n (λ l. bytecode.step p (setting_of p d l)) picks
+        (stand (λ l. bytecode.start) (at_start d)) ≡ Some value
+        → ProgramRuns p d picks value }
 {}

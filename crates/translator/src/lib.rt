@@ -7,11 +7,22 @@
 //! sides, `Shape` and `ModuleShape` which loops, switches and events each side has.
 #![tactic(auto)]
 
-mod emitter;
+mod emission;
+mod expressions;
+mod finish;
+mod group;
 mod laws;
+mod line;
+mod lowering;
+mod names;
+mod naming;
+mod raise;
+mod statements;
 mod translation;
+mod tree;
+mod writing;
 
-pub use laws::{dispatch_laws, run_laws};
+pub use laws::{dispatch_laws, example_laws, run_laws};
 pub use translation::translate;
 
 #[cfg(test)]

@@ -1,6 +1,7 @@
+use Rattle.word_base.specs.Words.{words_of}
 use Rattle.translator.specs.Emitted.{in_code}
 use Rattle.dxbc_container.specs.Chunks.{content_of}
-use Rattle.translator.proofs.Whole.{meant, sound, no_refusal, refused_container, refused_program}
+use Rattle.translator.proofs.Answered.{can_lower, meant, sound, no_refusal, refused_container, refused_program}
 use Rattle.translator.proofs.translation.translate.Goals as goal
 
 pub returns-in-Err-clause-halted : goal.returns-in-Err-clause-halted
@@ -11,12 +12,16 @@ returns-in-Err-read-clause-halted c =
     refused_program c.args.bytes.now (content_of c.args.bytes.now c.in-Ok.part) _ c.container_laws.ensures.single
     (no_refusal c.args.bytes.now c.first_laws.ensures.none c.in-Ok.ensures.refused) c.in-Ok.ensures.data c.in-Err-read.ensures.halted
 
-pub returns-in-Ok-emit-clause-means : goal.returns-in-Ok-emit-clause-means
-returns-in-Ok-emit-clause-means c =
-    meant c.args.bytes.now (content_of c.args.bytes.now c.in-Ok.part) c.in-Ok-emit.words.items c.in-Ok-read.program (in_code c.threads_of.result)
-    c.smallest_laws.ensures.form c.smallest_laws.ensures.instructions c.in-Ok.ensures.data c.in-Ok-read.ensures.ok c.threads_of.ensures c.in-Ok-emit.ensures
+pub lower-requires : goal.lower-requires
+lower-requires c = can_lower (words_of (content_of c.args.bytes.now c.in-Ok.part)) c.in-Ok-read.program.shader c.spelled_laws.ensures.operands c.byte_laws.ensures.words c.in-Ok-read.ensures.ok
 
-pub returns-in-Ok-emit-clause-sound : goal.returns-in-Ok-emit-clause-sound
-returns-in-Ok-emit-clause-sound c =
-    sound c.args.bytes.now (content_of c.args.bytes.now c.in-Ok.part) c.in-Ok-read.program c.container_laws.ensures.single
-    (no_refusal c.args.bytes.now c.first_laws.ensures.none c.in-Ok.ensures.refused) c.in-Ok.ensures.data c.in-Ok-read.ensures.ok
+pub returns-in-Ok-finish-clause-means : goal.returns-in-Ok-finish-clause-means
+returns-in-Ok-finish-clause-means c =
+    meant c.args.bytes.now (content_of c.args.bytes.now c.in-Ok.part) c.in-Ok-finish.words.items c.in-Ok-read.program.shader (in_code c.threads_of.result) c.in-Ok-lower.body
+    c.bytecode_laws.ensures.registers c.bytecode_laws.ensures.events c.result_laws.ensures.act c.spelled_laws.ensures.operands c.byte_laws.ensures.words
+    c.in-Ok.ensures.data c.in-Ok-read.ensures.ok c.threads_of.ensures c.in-Ok-lower.ensures c.in-Ok-finish.ensures
+
+pub returns-in-Ok-finish-clause-sound : goal.returns-in-Ok-finish-clause-sound
+returns-in-Ok-finish-clause-sound c =
+    sound c.args.bytes.now (content_of c.args.bytes.now c.in-Ok.part) c.in-Ok-read.program.shader c.container_laws.ensures.single
+    (no_refusal c.args.bytes.now c.first_laws.ensures.none c.in-Ok.ensures.refused) c.in-Ok.ensures.data c.in-Ok-read.ensures.sound c.in-Ok-read.ensures.ok

@@ -1,0 +1,169 @@
+-- What a straight line gives to the passes behind the reader: programs of words, in range, with no other memory than what is shared.
+use Rattle.std.proofs.Common.{◌≡◌, ℕ, ◌<◌, ◌^◌, Bool, true, false, ◌&&◌, List, [], ◌∷◌, Option, Some, None, IsTrue, refl, sym, ◌∙◌, subst, arith}
+use Rattle.std.specs.Prelude.{slice_get, slice_index, nat_eq, if◌then◌else◌}
+use Rattle.std.specs.List.{list_all}
+use Rattle.tpf_decode.specs.declared.argument.Kind.{Kind}
+use Rattle.tpf_decode.specs.declared.argument.Kind.TheVariants as kind
+use Rattle.tpf_decode.specs.declared.argument.Select.{Select}
+use Rattle.tpf_decode.specs.declared.argument.Select.TheVariants.{Bare, Mask, Swizzle, One}
+use Rattle.tpf_program.specs.declared.declaration.Declaration.{Declaration}
+use Rattle.tpf_program.specs.declared.declaration.Declaration.TheVariants.{Flags, Constants, Resource, Uav, Shared, Input, Temps, Indexable, Group, ImmediateConstants}
+use Rattle.tpf_program.specs.declared.declaration.SharedKind.TheVariants.{Raw, Structured}
+use Rattle.tpf_program.specs.declared.declaration.Declared.{Declared}
+use Rattle.tpf_program.specs.declared.instruction.Instruction.{Instruction}
+use Rattle.tpf_program.specs.Holding.{IsProgramOfWords, IsWellSpelled, SelectsInRange}
+use Rattle.tpf_program.specs.Program.{Shader}
+use Rattle.tpf_program.specs.Sizes.{Addressing, Bytes, Structures, addressing_of, addressing_declared, or_addressing}
+use Rattle.tpf_program.specs.Spelling.{Item, Declares, Does, Lists, Skips, declarations_in, constants_in}
+use Rattle.tpf_program.specs.StraightLine.{is_built, IsStraightLine}
+use Rattle.translator.specs.Lowered.{IsLowerable}
+use Rattle.translator.specs.Raised.{At, AreAllOfWords, IsComponent, SelectComponents}
+use Rattle.translator.proofs.Limits.{few_registers, few_slots}
+use Rattle.translator.proofs.Wants.{is_plain}
+
+first_of : (a b : Bool) → IsTrue (a && b) → IsTrue a
+first_of true b h = refl
+first_of false b h = absurd cc
+
+rest_of : (a b : Bool) → IsTrue (a && b) → IsTrue b
+rest_of true b h = h
+rest_of false b h = absurd cc
+
+-- no immediate constants
+no_constants : (items : List Item) → IsTrue (list_all (λ d. is_built d.what) (declarations_in items)) → constants_in items ≡ []
+no_constants [] h = refl
+no_constants (Declares d ∷ xs) h = no_constants xs (rest_of (is_built d.what) (list_all (λ e. is_built e.what) (declarations_in xs)) h)
+no_constants (Does i ∷ xs) h = no_constants xs h
+no_constants (Lists place values ∷ xs) h = absurd (cc)
+no_constants (Skips kind values ∷ xs) h = no_constants xs h
+
+-- no structures: what is declared of shared memory is reached by bytes
+abbrev IsBytes : Option Addressing → Type 0
+IsBytes None = Unit {0}
+IsBytes (Some a) = a ≡ Bytes
+
+none_or : (k : Kind) (slot : ℕ) (what : Declaration) → IsTrue (is_built what) → IsBytes (addressing_declared k slot what)
+none_or kind.Temp slot what h = tt
+none_or kind.Indexable slot what h = tt
+none_or kind.Immediate slot what h = tt
+none_or kind.Resource slot (Flags f) h = tt
+none_or kind.Resource slot (Constants s n) h = absurd cc
+none_or kind.Resource slot (Resource s v) h = absurd cc
+none_or kind.Resource slot (Uav s v c o) h = absurd cc
+none_or kind.Resource slot (Shared s v) h = tt
+none_or kind.Resource slot (Input b s) h = absurd cc
+none_or kind.Resource slot (Temps n) h = tt
+none_or kind.Resource slot (Indexable s n c) h = absurd cc
+none_or kind.Resource slot (Group x y z) h = tt
+none_or kind.Resource slot (ImmediateConstants n) h = absurd cc
+none_or kind.Constant slot what h = tt
+none_or kind.ImmediateConstant slot what h = tt
+none_or kind.Null slot what h = tt
+none_or kind.Uav slot (Flags f) h = tt
+none_or kind.Uav slot (Constants s n) h = absurd cc
+none_or kind.Uav slot (Resource s v) h = absurd cc
+none_or kind.Uav slot (Uav s v c o) h = absurd cc
+none_or kind.Uav slot (Shared s v) h = tt
+none_or kind.Uav slot (Input b s) h = absurd cc
+none_or kind.Uav slot (Temps n) h = tt
+none_or kind.Uav slot (Indexable s n c) h = absurd cc
+none_or kind.Uav slot (Group x y z) h = tt
+none_or kind.Uav slot (ImmediateConstants n) h = absurd cc
+none_or kind.Shared slot (Flags f) h = tt
+none_or kind.Shared slot (Constants s n) h = absurd cc
+none_or kind.Shared slot (Resource s v) h = absurd cc
+none_or kind.Shared slot (Uav s v c o) h = absurd cc
+none_or kind.Shared slot (Shared s (Raw bytes)) h = by_test (nat_eq s slot) where
+  by_test : (b : Bool) → IsBytes (if b then Some Bytes else None)
+  by_test true = refl
+  by_test false = tt
+none_or kind.Shared slot (Shared s (Structured stride count)) h = absurd cc
+none_or kind.Shared slot (Input b s) h = absurd cc
+none_or kind.Shared slot (Temps n) h = tt
+none_or kind.Shared slot (Indexable s n c) h = absurd cc
+none_or kind.Shared slot (Group x y z) h = tt
+none_or kind.Shared slot (ImmediateConstants n) h = absurd cc
+none_or kind.ThreadId slot what h = tt
+none_or kind.GroupId slot what h = tt
+none_or kind.IdInGroup slot what h = tt
+none_or kind.FlatId slot what h = tt
+
+or_bytes : (o : Option Addressing) (a : Addressing) → IsBytes o → a ≡ Bytes → or_addressing o a ≡ Bytes
+or_bytes None a h e = e
+or_bytes (Some b) a h e = h
+
+by_bytes : (k : Kind) (slot : ℕ) (ds : List Declared) → IsTrue (list_all (λ d. is_built d.what) ds) → addressing_of k slot ds ≡ Bytes
+by_bytes k slot [] h = refl
+by_bytes k slot (d ∷ ds) h =
+    let test = λ (e : Declared). is_built e.what in
+    or_bytes (addressing_declared k slot d.what) (addressing_of k slot ds) (none_or k slot d.what (first_of (is_built d.what) (list_all test ds) h))
+    (by_bytes k slot ds (rest_of (is_built d.what) (list_all test ds) h))
+
+bytes_are_none : (a : Addressing) (stride : ℕ) → a ≡ Bytes → a ≡ Structures stride → ⊥
+bytes_are_none a stride h k = cc (h, k)
+
+pub of_words : (tokens : List ℕ) (p : Shader) → IsStraightLine tokens p → IsProgramOfWords p
+of_words tokens p line = record {
+  constants = λ k.
+      let none = line.spelled.constants ∙ no_constants line.spelled.items (subst (λ ds. IsTrue (list_all (λ d. is_built d.what) ds)) line.spelled.declarations line.declarations) in
+      subst (λ ws. slice_index ws k < 2 ^ 32) (sym none) (omega arith);
+  strides = λ k slot stride h. absurd (bytes_are_none _ stride (by_bytes k slot p.declarations line.declarations) h);
+}
+
+-- ITS INSTRUCTIONS, in range
+abbrev pub AreWellSpelled : Shader → Type 0
+AreWellSpelled p = (k : ℕ) (i : Instruction) → slice_get p.instructions k ≡ Some i → IsWellSpelled i
+
+component : (s : Select) → SelectsInRange s → IsComponent s
+component Bare h = tt
+component (Mask m) h = tt
+component (Swizzle b) h = tt
+component (One k) h = h
+
+pub immediates : (p : Shader) → AreWellSpelled p → AreAllOfWords p
+immediates p h n i at = (h n i at).words
+
+components : (p : Shader) → AreWellSpelled p → (n : ℕ) → At p n SelectComponents
+components p h n i at =
+    let w = h n i at in
+    record {
+      o0 = component i.o0.select w.o0;
+      o1 = component i.o1.select w.o1;
+      o2 = component i.o2.select w.o2;
+      o3 = component i.o3.select w.o3;
+      o4 = component i.o4.select w.o4;
+    }
+
+pub lowerable : (tokens : List ℕ) (p : Shader) → IsStraightLine tokens p → AreWellSpelled p → IsLowerable p
+lowerable tokens p line h = record {
+  declarations = line.declarations;
+  temps = few_registers p line.sound;
+  slots = few_slots p line.sound;
+  instructions = line.instructions;
+  end = line.end;
+  components = components p h;
+}
+
+-- ITS DECLARATIONS, none of which wants a variable but shared memory
+plain : (what : Declaration) → IsTrue (is_built what) → is_plain what ≡ true
+plain (Flags f) h = refl
+plain (Constants s n) h = absurd cc
+plain (Resource s v) h = absurd cc
+plain (Uav s v c o) h = absurd cc
+plain (Shared s k) h = refl
+plain (Input b s) h = absurd cc
+plain (Temps n) h = refl
+plain (Indexable s n c) h = absurd cc
+plain (Group x y z) h = refl
+plain (ImmediateConstants n) h = absurd cc
+
+and_so : (a b : Bool) → a ≡ true → IsTrue b → IsTrue (a && b)
+and_so true b h k = k
+and_so false b h k = absurd cc
+
+pub all_plain : (ds : List Declared) → IsTrue (list_all (λ d. is_built d.what) ds) → IsTrue (list_all (λ d. is_plain d.what) ds)
+all_plain [] h = refl
+all_plain (d ∷ ds) h =
+    let test = λ (e : Declared). is_built e.what in
+    and_so (is_plain d.what) (list_all (λ e. is_plain e.what) ds) (plain d.what (first_of (is_built d.what) (list_all test ds) h))
+    (all_plain ds (rest_of (is_built d.what) (list_all test ds) h))

@@ -1,0 +1,40 @@
+-- From lanes that are the same under every setting to the same runs of every dispatch.
+use Rattle.std.proofs.Common.{◌≡◌, ℕ, ◌<◌, List, [], ◌∷◌, Some}
+use Rattle.std.specs.Prelude.{slice_get}
+use Rattle.word_base.specs.Lanes.{SameLanes}
+use Rattle.word_base.specs.Settings.{Setting}
+use Rattle.tpf_program.specs.declared.instruction.Instruction.{Instruction}
+use Rattle.tpf_program.specs.Bytecode as bytecode
+use Rattle.tpf_program.specs.Declarations.{threads_in}
+use Rattle.tpf_program.specs.Holding.{AreOfWords, IsProgramOfWords, IsEventOfWords}
+use Rattle.tpf_program.specs.Program.{Shader}
+use Rattle.spirv_words.specs.Lane as lane
+use Rattle.spirv_words.specs.Text.{Module}
+use Rattle.translator.specs.Bindings.{Binding, places_of, Fits}
+use Rattle.translator.specs.Dispatch.{Dispatch, AreLanes, lanes_of, setting_of, at_start, shared_machine}
+use Rattle.translator.specs.SameRuns.{SameRuns}
+use Rattle.translator.proofs.DispatchWords.{HoldsWords, keeps_words}
+use Rattle.translator.proofs.ProgramWords.{makes_words}
+use Rattle.translator.proofs.RaiseLaws.{LeavesWords, MakesWords, ActsOnWords}
+use Rattle.translator.proofs.SameValues.{Each, same_value_within}
+
+each_lane : (p : Shader) (d : Dispatch) (picks : List ℕ) → AreLanes p d picks → Each (λ l. l < lanes_of (threads_in p.declarations) d) picks
+each_lane p d [] h = tt
+each_lane p d (l ∷ picks) h = (h.0, each_lane p d picks h.1)
+
+pub same_dispatches : LeavesWords → MakesWords → ActsOnWords → (p : Shader) (bindings : List Binding) (m : Module) → IsProgramOfWords p
+    → ((n : ℕ) (i : Instruction) → slice_get p.instructions n ≡ Some i → AreOfWords i)
+    → ((setting : Setting) → Fits p bindings setting
+    → SameLanes (bytecode.step p setting) (lane.lane m (places_of p bindings) setting) bytecode.start (lane.start m (places_of p bindings) setting))
+    → SameRuns p bindings m
+same_dispatches leaves makes acts p bindings m words instructions same = record {
+  same = λ d picks value is_dispatch are_lanes.
+      same_value_within (shared_machine (threads_in p.declarations)) (λ c. HoldsWords c.memory) IsEventOfWords (keeps_words acts (threads_in p.declarations))
+      (λ l. l < lanes_of (threads_in p.declarations) d)
+      (λ l. bytecode.step p (setting_of p d l)) (λ l. lane.lane m (places_of p bindings) (setting_of p d l))
+      (λ l. bytecode.start) (λ l. lane.start m (places_of p bindings) (setting_of p d l)) (at_start d) value picks
+      (each_lane p d picks are_lanes) (record { views = is_dispatch.views; shared = is_dispatch.shared })
+      (λ l i. same (setting_of p d l) (is_dispatch.settings l i))
+      (λ l i. makes_words leaves makes p (setting_of p d l) words instructions (is_dispatch.settings l i).rooms.words);
+  never_wrong = λ setting fits. (same setting fits).never_wrong;
+}
