@@ -4,6 +4,7 @@ ghost use Rattle.outside.specs.Told.{BeginsRead, BeginsWrite, IsMissing, Reads, 
 ghost use Rattle.outside.specs.Memory.{told_of};
 
 use crate::{Status, run};
+use dxbc_container::build;
 use outside::{Desk, Failed, MemoryDesk, MemorySink, Sink, Words};
 use std::alloc::{AllocError, Global};
 use std::test::Fail;
@@ -18,8 +19,33 @@ const TAILED: [u8; 76] =
     *b"DXBC\xab\xab\xab\xab\xab\xab\xab\xab\xab\xab\xab\xab\xab\xab\xab\xab\x01\0\0\0\x48\0\0\0\x01\0\0\0\x24\0\0\0SHEX\x1c\0\0\0\x50\0\x05\0\x07\0\0\0\x9b\0\0\x04\x01\0\0\0\x01\0\0\0\x01\0\0\0\x3e\0\0\x01\0\0\0\0";
 
 /// The bytes of its module, written by hand from the table of SPIR-V instructions.
-const MODULE: [u8; 140] =
-    *b"\x03\x02\x23\x07\0\x03\x01\0\0\0\0\0\x05\0\0\0\0\0\0\0\x11\0\x02\0\x01\0\0\0\x0e\0\x03\0\0\0\0\0\x01\0\0\0\x0f\0\x05\0\x05\0\0\0\x01\0\0\0main\0\0\0\0\x10\0\x06\0\x01\0\0\0\x11\0\0\0\x01\0\0\0\x01\0\0\0\x01\0\0\0\x13\0\x02\0\x02\0\0\0\x21\0\x03\0\x03\0\0\0\x02\0\0\0\x36\0\x05\0\x02\0\0\0\x01\0\0\0\0\0\0\0\x03\0\0\0\xf8\0\x02\0\x04\0\0\0\xfd\0\x01\0\x38\0\x01\0";
+const MODULE: [u8; 188] =
+    *b"\x03\x02#\x07\0\x03\x01\0\0\0\0\0\x08\0\0\0\0\0\0\0\x11\0\x02\0\x01\0\0\0\x0e\0\x03\0\0\0\0\0\x01\0\0\0\x0f\0\x05\0\x05\0\0\0\x01\0\0\0main\0\0\0\0\x10\0\x06\0\x01\0\0\0\x11\0\0\0\x01\0\0\0\x01\0\0\0\x01\0\0\0\x13\0\x02\0\x02\0\0\0!\0\x03\0\x03\0\0\0\x02\0\0\0\x15\0\x04\0\x05\0\0\0 \0\0\0\0\0\0\0 \0\x04\0\x06\0\0\0\x07\0\0\0\x05\0\0\0 \0\x04\0\x07\0\0\0\x04\0\0\0\x05\0\0\06\0\x05\0\x02\0\0\0\x01\0\0\0\0\0\0\0\x03\0\0\0\xf8\0\x02\0\x04\0\0\0\xfd\0\x01\08\0\x01\0";
+
+/// A container with `mov r0.xy, l(3, 4, 0, 0)`, `iadd r0.x, r0.x, r0.y` and
+/// `store_raw g0.xy, l(0), r0.xyxx`.
+const STRAIGHT: [u8; 188] =
+    *b"DXBC\0\0\0\0\0\0\0\0\0\0\0\0\0\0\0\0\x01\0\0\0\xbc\0\0\0\x01\0\0\0$\0\0\0SHEX\x90\0\0\0P\0\x05\0$\0\0\0j\x08\0\x01h\0\0\x02\x01\0\0\0\x9f\0\0\x04\0\xf0\x11\0\0\0\0\0\x08\0\0\0\x9b\0\0\x04\x01\0\0\0\x01\0\0\0\x01\0\0\06\0\0\x082\0\x10\0\0\0\0\0\x02@\0\0\x03\0\0\0\x04\0\0\0\0\0\0\0\0\0\0\0\x1e\0\0\x07\x12\0\x10\0\0\0\0\0\x0a\0\x10\0\0\0\0\0\x1a\0\x10\0\0\0\0\0\xa6\0\0\x072\xf0\x11\0\0\0\0\0\x01@\0\0\0\0\0\0F\0\x10\0\0\0\0\0>\0\0\x01";
+
+/// The bytes of its module.
+const STRAIGHT_MODULE: [u8; 828] =
+    *b"\x03\x02#\x07\0\x03\x01\0\0\0\0\0'\0\0\0\0\0\0\0\x11\0\x02\0\x01\0\0\0\x0e\0\x03\0\0\0\0\0\x01\0\0\0\x0f\0\x05\0\x05\0\0\0\x01\0\0\0main\0\0\0\0\x10\0\x06\0\x01\0\0\0\x11\0\0\0\x01\0\0\0\x01\0\0\0\x01\0\0\0\x13\0\x02\0\x02\0\0\0!\0\x03\0\x03\0\0\0\x02\0\0\0\x15\0\x04\0\x05\0\0\0 \0\0\0\0\0\0\0 \0\x04\0\x06\0\0\0\x07\0\0\0\x05\0\0\0 \0\x04\0\x07\0\0\0\x04\0\0\0\x05\0\0\0+\0\x04\0\x05\0\0\0\x08\0\0\0\x02\0\0\0+\0\x04\0\x05\0\0\0\x0c\0\0\0\x03\0\0\0+\0\x04\0\x05\0\0\0\x0d\0\0\0\0\0\0\0+\0\x04\0\x05\0\0\0\x0f\0\0\0\x04\0\0\0+\0\x04\0\x05\0\0\0\x17\0\0\0\x01\0\0\0\x1c\0\x04\0\x09\0\0\0\x05\0\0\0\x08\0\0\0 \0\x04\0\x0a\0\0\0\x04\0\0\0\x09\0\0\0;\0\x04\0\x0a\0\0\0\x0b\0\0\0\x04\0\0\0\x1c\0\x04\0\x11\0\0\0\x05\0\0\0\x0f\0\0\0 \0\x04\0\x12\0\0\0\x07\0\0\0\x11\0\0\0.\0\x03\0\x11\0\0\0\x13\0\0\06\0\x05\0\x02\0\0\0\x01\0\0\0\0\0\0\0\x03\0\0\0\xf8\0\x02\0\x04\0\0\0;\0\x05\0\x06\0\0\0\x0e\0\0\0\x07\0\0\0\x0d\0\0\0;\0\x05\0\x06\0\0\0\x10\0\0\0\x07\0\0\0\x0d\0\0\0;\0\x05\0\x12\0\0\0\x14\0\0\0\x07\0\0\0\x13\0\0\0>\0\x03\0\x0e\0\0\0\x0c\0\0\0>\0\x03\0\x10\0\0\0\x0f\0\0\0A\0\x05\0\x06\0\0\0\x15\0\0\0\x14\0\0\0\x0d\0\0\0=\0\x04\0\x05\0\0\0\x16\0\0\0\x0e\0\0\0>\0\x03\0\x15\0\0\0\x16\0\0\0A\0\x05\0\x06\0\0\0\x18\0\0\0\x14\0\0\0\x17\0\0\0=\0\x04\0\x05\0\0\0\x19\0\0\0\x10\0\0\0>\0\x03\0\x18\0\0\0\x19\0\0\0A\0\x05\0\x06\0\0\0\x1a\0\0\0\x14\0\0\0\x0d\0\0\0=\0\x04\0\x05\0\0\0\x1b\0\0\0\x1a\0\0\0A\0\x05\0\x06\0\0\0\x1c\0\0\0\x14\0\0\0\x17\0\0\0=\0\x04\0\x05\0\0\0\x1d\0\0\0\x1c\0\0\0\x80\0\x05\0\x05\0\0\0\x1e\0\0\0\x1b\0\0\0\x1d\0\0\0>\0\x03\0\x0e\0\0\0\x1e\0\0\0A\0\x05\0\x06\0\0\0\x1f\0\0\0\x14\0\0\0\x0d\0\0\0=\0\x04\0\x05\0\0\0 \0\0\0\x0e\0\0\0>\0\x03\0\x1f\0\0\0 \0\0\0A\0\x05\0\x07\0\0\0!\0\0\0\x0b\0\0\0\x0d\0\0\0A\0\x05\0\x06\0\0\0\x22\0\0\0\x14\0\0\0\x0d\0\0\0=\0\x04\0\x05\0\0\0#\0\0\0\x22\0\0\0>\0\x03\0!\0\0\0#\0\0\0A\0\x05\0\x07\0\0\0$\0\0\0\x0b\0\0\0\x17\0\0\0A\0\x05\0\x06\0\0\0%\0\0\0\x14\0\0\0\x17\0\0\0=\0\x04\0\x05\0\0\0&\0\0\0%\0\0\0>\0\x03\0$\0\0\0&\0\0\0\xfd\0\x01\08\0\x01\0";
+
+/// The same container with an opcode 0 in place of the `mov`.
+const WRONG_MOVE: [u8; 188] =
+    *b"DXBC\0\0\0\0\0\0\0\0\0\0\0\0\0\0\0\0\x01\0\0\0\xbc\0\0\0\x01\0\0\0$\0\0\0SHEX\x90\0\0\0P\0\x05\0$\0\0\0j\x08\0\x01h\0\0\x02\x01\0\0\0\x9f\0\0\x04\0\xf0\x11\0\0\0\0\0\x08\0\0\0\x9b\0\0\x04\x01\0\0\0\x01\0\0\0\x01\0\0\0\0\0\0\x082\0\x10\0\0\0\0\0\x02@\0\0\x03\0\0\0\x04\0\0\0\0\0\0\0\0\0\0\0\x1e\0\0\x07\x12\0\x10\0\0\0\0\0\x0a\0\x10\0\0\0\0\0\x1a\0\x10\0\0\0\0\0\xa6\0\0\x072\xf0\x11\0\0\0\0\0\x01@\0\0\0\0\0\0F\0\x10\0\0\0\0\0>\0\0\x01";
+
+/// A container with `mov r0.x, -r0.y`, where no modifier may stand.
+const NEGATED: [u8; 104] =
+    *b"DXBC\0\0\0\0\0\0\0\0\0\0\0\0\0\0\0\0\x01\0\0\0h\0\0\0\x01\0\0\0$\0\0\0SHEX<\0\0\0P\0\x05\0\x0f\0\0\0h\0\0\x02\x01\0\0\0\x9b\0\0\x04\x01\0\0\0\x01\0\0\0\x01\0\0\06\0\0\x06\x12\0\x10\0\0\0\0\0\x1a\0\x10\x80A\0\0\0\0\0\0\0>\0\0\x01";
+
+/// A container whose last token is one word longer than the program.
+const LONG_LAST: [u8; 72] =
+    *b"DXBC\0\0\0\0\0\0\0\0\0\0\0\0\0\0\0\0\x01\0\0\0H\0\0\0\x01\0\0\0$\0\0\0SHEX\x1c\0\0\0P\0\x05\0\x07\0\0\0\x9b\0\0\x04\x01\0\0\0\x01\0\0\0\x01\0\0\0>\0\0\x02";
+
+/// A container whose last token has the opcode 0.
+const UNKNOWN_LAST: [u8; 72] =
+    *b"DXBC\0\0\0\0\0\0\0\0\0\0\0\0\0\0\0\0\x01\0\0\0H\0\0\0\x01\0\0\0$\0\0\0SHEX\x1c\0\0\0P\0\x05\0\x07\0\0\0\x9b\0\0\x04\x01\0\0\0\x01\0\0\0\x01\0\0\0\0\0\0\x01";
 
 /// The words of a command line.
 fn words(alloc: Global, texts: &[&str]) -> Result<Words, AllocError> {
@@ -50,7 +76,7 @@ fn desk(alloc: Global, name: &str, bytes: &[u8], call: u64) -> Result<MemoryDesk
 /// A sink with a failing call.
 fn sink(alloc: Global, call: u64) -> Result<MemorySink, NoMemory> {
     let calls = failing(alloc, call).map_err(|_| NoMemory)?;
-    MemorySink::make(alloc, 1000, calls)
+    MemorySink::make(alloc, 300_000, calls)
 }
 
 /// What a run left: the bytes of the stream, of the one named output, and of the stream of errors.
@@ -165,6 +191,35 @@ fn rows(rt: HostRuntime) -> Result<(), Fail> {
     let rows = [
         stream_row(&[], &SMALLEST, Status::Ok, &MODULE, b""),
         stream_row(&["-"], &TAILED, Status::Ok, &MODULE, b""),
+        stream_row(&[], &STRAIGHT, Status::Ok, &STRAIGHT_MODULE, b""),
+        stream_row(
+            &[],
+            &WRONG_MOVE,
+            Status::Refused,
+            b"",
+            b"vkd3d-compiler: K4 at 13: opcode outside the profile\n",
+        ),
+        stream_row(
+            &[],
+            &NEGATED,
+            Status::Refused,
+            b"",
+            b"vkd3d-compiler: K10 at 12: modifier not allowed here\n",
+        ),
+        stream_row(
+            &[],
+            &LONG_LAST,
+            Status::Refused,
+            b"",
+            b"vkd3d-compiler: K3 at 6: wrong instruction length\n",
+        ),
+        stream_row(
+            &[],
+            &UNKNOWN_LAST,
+            Status::Refused,
+            b"",
+            b"vkd3d-compiler: K4 at 6: opcode outside the profile\n",
+        ),
         stream_row(
             &[],
             b"",
@@ -209,6 +264,50 @@ fn refuses_a_byte_too_many(rt: HostRuntime) -> Result<(), Fail> {
     assert_eq!(rt;
         large.told.as_slice(),
         b"vkd3d-compiler: M1 at 16777216: file too large\n".as_slice()
+    );
+    Ok(())
+}
+
+/// The container of a program of so many words: 9,360 stores of a 1 to one word of shared memory,
+/// so many times `nop`, and `ret`.
+fn storing(alloc: Global, words: u32, idle: u32) -> Result<Vec<u8>, NoMemory> {
+    let mut tokens = Vec::new(alloc);
+    for token in [
+        0x00050050, words, 0x0400009F, 0x0011F000, 0, 4, 0x0400009B, 1, 1, 1,
+    ] {
+        tokens.push(token).map_err(|_| NoMemory)?;
+    }
+    for _ in 0..9360 {
+        for token in [0x070000A6, 0x0011F012, 0, 0x00004001, 0, 0x00004001, 1] {
+            tokens.push(token).map_err(|_| NoMemory)?;
+        }
+    }
+    for _ in 0..idle {
+        tokens.push(0x0100003A).map_err(|_| NoMemory)?;
+    }
+    tokens.push(0x0100003E).map_err(|_| NoMemory)?;
+    let end = usize::min(words as usize, 65_537);
+    build(alloc, tokens.get(..end).unwrap_or(&[]))
+}
+
+/// The longest program there may be. Its module has 67 words and eight for each store; where the
+/// third piece cannot be written, the first two stand. A program with one word more is refused.
+#[test]
+fn longest_program(rt: HostRuntime) -> Result<(), Fail> {
+    let bytes = storing(rt.alloc(), 65_536, 5)?;
+    assert_eq!(rt; bytes.len(), 262_188);
+    let left = run_with(rt.alloc(), &[], "-", &bytes, [0, 0, 0])?;
+    assert_eq!(rt; left.status, Status::Ok);
+    assert_eq!(rt; left.stream.len(), 299_788);
+    let left = run_with(rt.alloc(), &[], "-", &bytes, [0, 3, 0])?;
+    assert_eq!(rt; left.status, Status::Fault);
+    assert_eq!(rt; left.stream.len(), 8192);
+    let bytes = storing(rt.alloc(), 65_537, 6)?;
+    let left = run_with(rt.alloc(), &[], "-", &bytes, [0, 0, 0])?;
+    assert_eq!(rt; left.status, Status::Refused);
+    assert_eq!(rt;
+        left.told.as_slice(),
+        b"vkd3d-compiler: M2 at 1: program too long\n".as_slice()
     );
     Ok(())
 }
