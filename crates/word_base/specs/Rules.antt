@@ -1,7 +1,7 @@
 -- Rules, and which of the broken ones counts. The phases are those of the translator, one after the other: the sizes of the
 -- files and the container (2), the head of the program (3), its size (4), its tokens (5), its declarations (6), its structure (7),
--- the bindings (8), their completeness (9) and the dispatch (10).
-use Rattle.std.specs.Prelude.{◌≡◌, ℕ, nat_eq, nat_le, nat_lt, ◌&&◌, ◌||◌, if◌then◌else◌, Bool, false, List, [], ◌∷◌, Option, Some, None, refl, ⊤}
+-- its size with the words that its typed views grow to (8), the bindings (9), their completeness (10) and the dispatch (11).
+use Rattle.std.specs.Prelude.{◌≡◌, ℕ, nat_eq, nat_le, nat_lt, ◌&&◌, ◌||◌, if◌then◌else◌, Bool, true, false, List, [], ◌∷◌, Option, Some, None, refl, ⊤, ◌⊎◌}
 use Rattle.word_base.specs.declared.rule.Rule.{Rule}
 use Rattle.word_base.specs.declared.rule.Rule.TheVariants.{M1, C1, C2, C3, C4, C5, C6, C7, C8, C9, K1, K2, M2, M4, K3, K4, K5, K6, K7, K8, K9, K10, K11, K12, K13, K14, K15, L1, L2, L3, L4, L5, L6, L7, L8, S1, S2, S3, S4, S5, S6, S7, S8, S9, M3, U1, G1, G2, G3, G4, G5, G6, B1, B2, B3, X1, X2, X3, X4, X5}
 use Rattle.word_base.specs.declared.rule.Refusal.{Refusal}
@@ -65,20 +65,24 @@ order_of S8 = tested 7 8
 order_of S9 = tested 7 9
 order_of M3 = tested 7 10
 order_of U1 = tested 6 0
-order_of G1 = tested 8 1
-order_of G2 = tested 8 2
-order_of G3 = tested 8 3
-order_of G4 = tested 8 4
-order_of G5 = tested 8 5
-order_of G6 = tested 8 0
-order_of B1 = tested 9 1
-order_of B2 = tested 8 2
-order_of B3 = tested 8 3
-order_of X1 = tested 10 1
-order_of X2 = tested 10 2
-order_of X3 = tested 10 3
-order_of X4 = tested 10 4
-order_of X5 = tested 10 5
+order_of G1 = tested 9 1
+order_of G2 = tested 9 2
+order_of G3 = tested 9 3
+order_of G4 = tested 9 4
+order_of G5 = tested 9 5
+order_of G6 = tested 9 0
+order_of B1 = tested 10 1
+order_of B2 = tested 9 2
+order_of B3 = tested 9 3
+order_of X1 = tested 11 1
+order_of X2 = tested 11 2
+order_of X3 = tested 11 3
+order_of X4 = tested 11 4
+order_of X5 = tested 11 5
+
+-- M2 has a second part, on the words that a program of typed views grows to. It is tested behind the structure.
+abbrev pub order_of_growth : Order
+order_of_growth = tested 8 0
 
 abbrev pub refusal : Rule → ℕ → Refusal
 refusal rule place = record { rule = rule; place = place }
@@ -119,6 +123,10 @@ pub record IsFirst (broken : Refusal → Type 0) (r : Refusal) : Type 0 where
 abbrev pub IsSound : (Refusal → Type 0) → Type 0
 IsSound broken = (q : Refusal) → broken q → ⊥
 
+-- Rules with the second part of M2 behind them: that is broken where nothing before it is.
+abbrev pub WithGrowth : (Refusal → Type 0) → Type 0 → Refusal → Type 0
+WithGrowth broken grows r = broken r ⊎ (IsSound broken × grows × (r ≡ refusal M2 1))
+
 -- Why a call that reads an input stopped: by the first broken rule, or for want of memory, of which nothing is said.
 abbrev pub HaltsBy : (Refusal → Type 0) → Halt → Type 0
 HaltsBy broken (Refused r) = IsFirst broken r
@@ -142,3 +150,10 @@ place_first = refl
 
 pub structure_before_nesting : first (refusal M3 136 ∷ refusal S9 136 ∷ []) ≡ Some (refusal S9 136)
 structure_before_nesting = refl
+
+-- a program that grows too long: behind a nesting that is too deep, before a root signature without a version
+pub growth_behind_nesting : is_below (key_of (refusal M3 136)) (key_by order_of_growth 1) ≡ true
+growth_behind_nesting = refl
+
+pub growth_before_bindings : is_below (key_by order_of_growth 1) (key_of (refusal G6 0)) ≡ true
+growth_before_bindings = refl

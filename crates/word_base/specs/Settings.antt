@@ -4,6 +4,15 @@ use Rattle.word_base.specs.declared.event.Ids.{Ids}
 use Rattle.word_base.specs.declared.event.Room.{Room}
 use Rattle.word_base.specs.Words.{AreWords}
 
+-- Numbers along the three axes: the threads of a group, the groups of a dispatch, or where a thread or group stands among them.
+pub record Axes : Type 0 where
+  pub x : ℕ
+  pub y : ℕ
+  pub z : ℕ
+
+abbrev pub axes : ℕ → ℕ → ℕ → Axes
+axes x y z = record { x = x; y = y; z = z }
+
 -- The lane's numbers, the words of the constant buffer at each slot, and the length in words of each room: 0 for a room that is not
 -- there.
 pub record Setting : Type 0 where
