@@ -6,7 +6,9 @@ words of mov and iadd, each in a container with its true checksum, and runs them
 is installed, through the vkd3d-compiler of Wine's vkd3d. Instructions are those of the translation alone: the count of
 the smallest container, which is almost only start-up, is taken off.
 
-Usage: bench/measure.py [DIRECTORY]    (the containers stay in the directory; without one they are thrown away)
+Usage: bench/measure.py [--names] [DIRECTORY]    (the containers stay in the directory; without one they are thrown away)
+
+With --names it measures programs of few and of many distinct registers and constants in their place, at three sizes.
 """
 
 import os
@@ -49,6 +51,29 @@ def arithmetic(words):
         to, a, b = i % 4, (i + 1) % 4, (i + 2) % 4
         body += [0x08000036, 0x001000F2, to, 0x00004002, 1, 2, 3, 4]  # mov r.xyzw, l(1, 2, 3, 4)
         body += [0x0700001E, 0x001000F2, to, 0x00100E46, a, 0x00100E46, b]  # iadd r.xyzw, r.xyzw, r.xyzw
+        i += 1
+    return program(front + body + RETURN)
+
+
+def registers(words, names):
+    """About so many words of sums on one component, over so many registers in turn."""
+    front = [0x02000068, names] + THREAD_GROUP
+    body = []
+    i = 0
+    while len(front) + len(body) + 2 + 1 + 7 <= words:
+        to, a = i % names, (i + 1) % names
+        body += [0x0700001E, 0x00100012, to, 0x0010000A, a, 0x00004001, 1]  # iadd r.x, r.x, l(1)
+        i += 1
+    return program(front + body + RETURN)
+
+
+def constants(words, names):
+    """About so many words of moves of one component, of so many constants in turn."""
+    front = [0x02000068, 1] + THREAD_GROUP
+    body = []
+    i = 0
+    while len(front) + len(body) + 2 + 1 + 5 <= words:
+        body += [0x05000036, 0x00100012, 0, 0x00004001, 7919 * (i % names) + 1]  # mov r0.x, l(..)
         i += 1
     return program(front + body + RETURN)
 
@@ -126,7 +151,8 @@ def run(command, source):
 
 
 def main():
-    keep = sys.argv[1] if len(sys.argv) > 1 else None
+    kept = [word for word in sys.argv[1:] if word != "--names"]
+    keep = kept[0] if kept else None
     work = keep or tempfile.mkdtemp()
     os.makedirs(work, exist_ok=True)
     cases = [
@@ -136,6 +162,13 @@ def main():
         ("64,000 words", arithmetic(64000)),
         ("longest", longest()),
     ]
+    if "--names" in sys.argv:
+        cases[1:] = [
+            (f"{kind.__name__} {words} {names}", kind(words, names))
+            for kind in (registers, constants)
+            for words in (1000, 8000, 64000)
+            for names in (10, words // 16)
+        ]
     tools = [("ours", [OURS], "-")]
     theirs = shutil.which("vkd3d-compiler")
     if theirs:
