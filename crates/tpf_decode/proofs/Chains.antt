@@ -4,12 +4,12 @@ use Rattle.std.specs.Prelude.{if◌then◌else◌, slice_range, slice_index}
 use Rattle.std.specs.List.{list_all}
 use Rattle.std.proofs.lemmas.Bool.Decides.{nat_tests}
 use Rattle.word_base.specs.declared.rule.Rule.TheVariants.{K11}
-use Rattle.word_base.specs.Rules.{order_of, refusal, first}
+use Rattle.word_base.specs.Rules.{broken, order_of, refusal, first}
 use Rattle.tpf_decode.specs.declared.chain.Extended.{Extended}
 use Rattle.tpf_decode.specs.declared.chain.Extended.TheVariants.{Opcode, Operand}
 use Rattle.tpf_decode.specs.Tokens.{follows}
 use Rattle.tpf_decode.specs.Spelling.{IsChain}
-use Rattle.tpf_decode.specs.Refusals.{broken, Rest, nothing, StandsFrom, IsOrderly, is_taken, rule_of, chain_faults}
+use Rattle.tpf_decode.specs.Refusals.{Rest, nothing, StandsFrom, IsOrderly, is_taken, rule_of, chain_faults}
 use Rattle.tpf_decode.proofs.Ranges.{range_none, range_cons, range_one, range_split, length-range}
 use Rattle.tpf_decode.proofs.Order.{first_broken, behind_place, stands_earlier, StandsFrom-append, StandsFrom-broken}
 

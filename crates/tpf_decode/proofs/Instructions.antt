@@ -5,16 +5,16 @@ use Rattle.std.specs.List.{list_all}
 use Rattle.word_base.specs.declared.rule.Rule.{Rule}
 use Rattle.word_base.specs.declared.rule.Rule.TheVariants.{K13}
 use Rattle.word_base.specs.declared.rule.Refusal.{Refusal}
-use Rattle.word_base.specs.Rules.{first}
+use Rattle.word_base.specs.Rules.{broken, first}
 use Rattle.tpf_decode.specs.declared.argument.Role.{Role}
 use Rattle.tpf_decode.specs.declared.argument.Argument.{Argument}
 use Rattle.tpf_decode.specs.declared.chain.Extended.TheVariants.{Opcode}
 use Rattle.tpf_decode.specs.declared.extent.Extent.{Extent}
-use Rattle.tpf_decode.specs.Profiles.{Profile, Base}
+use Rattle.tpf_decode.specs.Profiles.{Profile}
 use Rattle.tpf_decode.specs.Tokens.{follows, length_of, opcode_of, controls_of}
 use Rattle.tpf_decode.specs.Declarations.{layout_of, roles_at}
 use Rattle.tpf_decode.specs.Spelling.{IsChain, SpellsHead, SpellsOperands, Spells, further_words}
-use Rattle.tpf_decode.specs.Refusals.{Rest, nothing, IsOrderly, broken, first_rule, is_taken, head_tests, head_faults, chain_faults, is_custom, is_custom_data, faults_with, cut_faults, operands_faults, IsCut, IsExtent}
+use Rattle.tpf_decode.specs.Refusals.{Rest, nothing, IsOrderly, first_rule, is_taken, head_tests, head_faults, chain_faults, is_custom, is_custom_data, faults_with, cut_faults, operands_faults, IsCut, IsExtent}
 use Rattle.tpf_decode.proofs.Ranges.{range_cons, length-range}
 use Rattle.tpf_decode.proofs.Order.{by_rule, no_tests}
 use Rattle.tpf_decode.proofs.Chains.{nothing_orderly}
@@ -57,25 +57,25 @@ head_there profile code controls size words at first h k s =
       ap length_of (sym t) ∙ s.size_is,
     )
 
-pub cut_passed : (rest : ℕ → Rest) (words : List ℕ) (n at : ℕ) (e : Extent) → at < n → n ≤ length words → first (cut_faults Base at (slice_range words at n)) ≡ None → IsExtent Base words n at e → nat_eq e.code 53 ≡ false
-    → faults_with Base rest at (slice_range words at n) ≡ rest e.code e.first (slice_range words e.first e.end)
-cut_passed rest words n at e h k none s other =
+pub cut_passed : (profile : Profile) (rest : ℕ → Rest) (words : List ℕ) (n at : ℕ) (e : Extent) → at < n → n ≤ length words → first (cut_faults profile at (slice_range words at n)) ≡ None → IsExtent profile words n at e → nat_eq e.code 53 ≡ false
+    → faults_with profile rest at (slice_range words at n) ≡ rest e.code e.first (slice_range words e.first e.end)
+cut_passed profile rest words n at e h k none s other =
     let token = slice_index words at in
     let ws = slice_range words (at + 1) n in
     let custom : is_custom_data token ≡ false = ap (λ c. nat_eq c 53) (sym s.code_is) ∙ other in
-    let m : first (head_faults Base nothing at token ws) ≡ None =
-    sym (ap (λ b. first (if b then broken (not (is_custom token ws)) K13 at else head_faults Base nothing at token ws)) custom)
-    ∙ (sym (ap (λ l. first (cut_faults Base at l)) (range_cons words at n h k)) ∙ none) in
+    let m : first (head_faults profile nothing at token ws) ≡ None =
+    sym (ap (λ b. first (if b then broken (not (is_custom token ws)) K13 at else head_faults profile nothing at token ws)) custom)
+    ∙ (sym (ap (λ l. first (cut_faults profile at l)) (range_cons words at n h k)) ∙ none) in
     let left : length ws + 1 ≡ n - at = omega (arith, length-range words (at + 1) n k) in
-    let t = both_none (first_rule (head_tests Base (length ws + 1) token)) at (first (chain_faults Opcode (follows token) nothing (at + 1) (take (length_of token - 1) ws)))
-    (sym (first_of_head Base nothing at token ws nothing_orderly) ∙ m) in
-    let l = sound_length (n - at) token (ap (λ x. first_rule (head_tests Base x token)) (sym left) ∙ t.0) in
-    let head : SpellsHead Base e.code e.controls (e.end - at) (slice_range words at e.first) = subst (λ b. IsCut b Base words at e) other s.spelled in
-    let c = head_there Base e.code e.controls (e.end - at) words at e.first s.begins (omega (arith, s.order, s.ends)) head in
+    let t = both_none (first_rule (head_tests profile (length ws + 1) token)) at (first (chain_faults Opcode (follows token) nothing (at + 1) (take (length_of token - 1) ws)))
+    (sym (first_of_head profile nothing at token ws nothing_orderly) ∙ m) in
+    let l = sound_length profile (n - at) token (ap (λ x. first_rule (head_tests profile x token)) (sym left) ∙ t.0) in
+    let head : SpellsHead profile e.code e.controls (e.end - at) (slice_range words at e.first) = subst (λ b. IsCut b profile words at e) other s.spelled in
+    let c = head_there profile e.code e.controls (e.end - at) words at e.first s.begins (omega (arith, s.order, s.ends)) head in
     let size : at + length_of token ≡ e.end = omega (arith, c.2, s.begins, s.order) in
-    ap (faults_with Base rest at) (range_cons words at n h k)
-    ∙ (ap (λ b. if b then broken (not (is_custom token ws)) K13 at else head_faults Base (rest (opcode_of token)) at token ws) custom
-    ∙ (ap (λ qs. qs ++ chain_faults Opcode (follows token) (rest (opcode_of token)) (at + 1) (take (length_of token - 1) ws)) (no_tests at (head_tests Base (length ws + 1) token) t.0)
+    ap (faults_with profile rest at) (range_cons words at n h k)
+    ∙ (ap (λ b. if b then broken (not (is_custom token ws)) K13 at else head_faults profile (rest (opcode_of token)) at token ws) custom
+    ∙ (ap (λ qs. qs ++ chain_faults Opcode (follows token) (rest (opcode_of token)) (at + 1) (take (length_of token - 1) ws)) (no_tests at (head_tests profile (length ws + 1) token) t.0)
     ∙ (ap (chain_faults Opcode (follows token) (rest (opcode_of token)) (at + 1)) (words_behind words n at (length_of token) l.0 l.1 ∙ ap (slice_range words (at + 1)) size)
     ∙ (passed_chain Opcode (follows token) (rest (opcode_of token)) words (at + 1) e.first e.end (omega (arith, s.begins)) s.order (omega (arith, s.ends)) c.0 c.1
     ∙ ap (λ x. rest x e.first (slice_range words e.first e.end)) (sym s.code_is)))))
@@ -109,7 +109,7 @@ operands_same profile code (role ∷ roles) (a ∷ arguments) (b ∷ bs) ws vs x
     (ap (λ x. x ∷ arguments) s.0 ∙ ap (λ l. b ∷ l) t.0, t.1)
 
 -- lists of one length that begin alike are the same
-front_same : (ws vs xs ys : List ℕ) → length ws ≡ length vs → ws ++ xs ≡ vs ++ ys → (ws ≡ vs) × (xs ≡ ys)
+pub front_same : (ws vs xs ys : List ℕ) → length ws ≡ length vs → ws ++ xs ≡ vs ++ ys → (ws ≡ vs) × (xs ≡ ys)
 front_same [] [] xs ys e p = (refl, p)
 front_same [] (v ∷ vs) xs ys e p = absurd (omega arith)
 front_same (w ∷ ws) [] xs ys e p = absurd (omega arith)

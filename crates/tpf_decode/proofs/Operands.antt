@@ -4,13 +4,13 @@ use Rattle.std.specs.Prelude.{slice_range, slice_index, nat_lt, if◌then◌else
 use Rattle.std.proofs.lemmas.Bool.Decides.{nat_tests}
 use Rattle.std.proofs.lemmas.List.{drop-take, drop-drop}
 use Rattle.word_base.specs.declared.rule.Rule.TheVariants.{K9, K11}
-use Rattle.word_base.specs.Rules.{refusal, first}
+use Rattle.word_base.specs.Rules.{broken, refusal, first}
 use Rattle.tpf_decode.specs.declared.argument.Kind.{Kind}
 use Rattle.tpf_decode.specs.declared.argument.Kind.TheVariants.{Temp, Indexable, Constant, ThreadId, GroupId, IdInGroup, FlatId}
 use Rattle.tpf_decode.specs.Tokens.{follows, kind_of, Fixed, Literal, Slot, Nothing, fixed_count}
 use Rattle.tpf_decode.specs.Roles.{index_count, is_relative, is_relative_by, is_relative_of, is_relative_type}
 use Rattle.tpf_decode.specs.Spelling.{SpellsImmediate, SpellsFixed, SpellsPlace}
-use Rattle.tpf_decode.specs.Refusals.{Rest, StandsFrom, IsOrderly, behind_words, place_count, relative_faults, broken}
+use Rattle.tpf_decode.specs.Refusals.{Rest, StandsFrom, IsOrderly, behind_words, place_count, relative_faults}
 use Rattle.tpf_decode.proofs.Ranges.{range_none, range_cons, range_one, range_split, length-range}
 use Rattle.tpf_decode.proofs.Order.{first_broken, behind_place, stands_earlier}
 

@@ -4,8 +4,8 @@ use Rattle.std.specs.Prelude.{if◌then◌else◌}
 use Rattle.std.proofs.lemmas.Bool.Decides.{nat_tests}
 use Rattle.word_base.specs.declared.rule.Rule.{Rule}
 use Rattle.word_base.specs.declared.rule.Refusal.{Refusal}
-use Rattle.word_base.specs.Rules.{Order, order_of, key_by, is_below, comes_before, refusal, earlier, first}
-use Rattle.tpf_decode.specs.Refusals.{broken, StandsFrom, Test, broken_at, first_rule}
+use Rattle.word_base.specs.Rules.{broken, Order, order_of, key_by, is_below, comes_before, refusal, earlier, first}
+use Rattle.tpf_decode.specs.Refusals.{StandsFrom, Test, broken_at, first_rule}
 
 below_later : (o p : Order) (m n : ℕ) → o.phase ≡ 5 → p.phase ≡ 5 → n < m → is_below (key_by o m) (key_by p n) ≡ false
 below_later o p m n h k l = grind (arith, nat_tests)

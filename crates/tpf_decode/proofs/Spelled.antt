@@ -6,7 +6,7 @@ use Rattle.std.proofs.Math.Seq.{drop-append_seam}
 use Rattle.std.proofs.lemmas.List.{length-append}
 use Rattle.std.proofs.lemmas.Bool.Decides.{nat_tests}
 use Rattle.word_base.specs.declared.rule.Rule.TheVariants.{K6, K7, K8, K9, K11}
-use Rattle.word_base.specs.Rules.{refusal}
+use Rattle.word_base.specs.Rules.{broken, refusal}
 use Rattle.tpf_decode.specs.declared.argument.Kind.{Kind}
 use Rattle.tpf_decode.specs.declared.argument.Kind.TheVariants.{Temp, Indexable, Constant, ThreadId, GroupId, IdInGroup, FlatId}
 use Rattle.tpf_decode.specs.declared.argument.Role.{Role}
@@ -18,7 +18,7 @@ use Rattle.tpf_decode.specs.Profiles.{Profile}
 use Rattle.tpf_decode.specs.Tokens.{follows, kind_of, has_selection, Fixed, Literal, Slot, Nothing, fixed_of, fixed_count, element_of, has_immediate, has_relative, immediate_count}
 use Rattle.tpf_decode.specs.Roles.{may_negate, is_relative_type, index_count, is_allowed, takes, has_indices, is_declaration}
 use Rattle.tpf_decode.specs.Spelling.{IsChain, SpellsPlace, SpellsRelative, SpellsImmediate, SpellsAddend, SpellsElement, SpellsFixed, SpellsBehind, SpellsToken, SpellsOperand}
-use Rattle.tpf_decode.specs.Refusals.{broken, broken_at, Rest, is_taken, chain_faults, token_tests, behind_words, place_count, relative_faults, element_faults, behind_faults, operand_faults}
+use Rattle.tpf_decode.specs.Refusals.{broken_at, Rest, is_taken, chain_faults, token_tests, behind_words, place_count, relative_faults, element_faults, behind_faults, operand_faults}
 use Rattle.tpf_decode.proofs.Chains.{leads_of, taken_pass}
 use Rattle.tpf_decode.proofs.Operands.{type_of_relative}
 

@@ -5,7 +5,7 @@ use Rattle.std.specs.List.{list_all}
 use Rattle.word_base.specs.declared.rule.Rule.{Rule}
 use Rattle.word_base.specs.declared.rule.Rule.TheVariants.{K6, K7, K8, K9, K11}
 use Rattle.word_base.specs.declared.rule.Refusal.{Refusal}
-use Rattle.word_base.specs.Rules.{refusal, first}
+use Rattle.word_base.specs.Rules.{broken, refusal, first}
 use Rattle.tpf_decode.specs.declared.argument.Kind.{Kind}
 use Rattle.tpf_decode.specs.declared.argument.Role.{Role}
 use Rattle.tpf_decode.specs.declared.argument.Argument.{Argument}
@@ -15,7 +15,7 @@ use Rattle.tpf_decode.specs.Profiles.{Profile}
 use Rattle.tpf_decode.specs.Tokens.{follows, kind_of, has_selection, select_of, fixed_of, fixed_count, element_of, has_relative, immediate_count}
 use Rattle.tpf_decode.specs.Roles.{may_negate, is_relative, is_allowed, takes, has_indices, is_declaration}
 use Rattle.tpf_decode.specs.Spelling.{IsChain, SpellsToken}
-use Rattle.tpf_decode.specs.Refusals.{broken, Rest, nothing, IsOrderly, is_taken, rule_of, chain_faults, breaks, broken_at, first_rule, selects, allows, indexes, token_tests, behind_words, place_count, relative_faults, element_faults, behind_faults, operand_faults}
+use Rattle.tpf_decode.specs.Refusals.{Rest, nothing, IsOrderly, is_taken, rule_of, chain_faults, breaks, broken_at, first_rule, selects, allows, indexes, token_tests, behind_words, place_count, relative_faults, element_faults, behind_faults, operand_faults}
 use Rattle.tpf_decode.proofs.Ranges.{range_cons}
 use Rattle.tpf_decode.proofs.Order.{IsRising, by_rule, first_of_tests, first_broken, behind_place, StandsFrom-append, StandsFrom-broken, StandsFrom-tests, stands_earlier}
 use Rattle.tpf_decode.proofs.Chains.{chain_orderly, first_of_chain, nothing_orderly, leads_of, first_behind}

@@ -1,6 +1,6 @@
 -- The declarations: each with its opcode, its name in assembly text, the role of its operand where it has one, the type that the
 -- operand must be of where the opcode fixes it, the number of words behind the operand, and the first profile that has it.
-use Rattle.std.specs.Prelude.{ℕ, nat_eq, ◌||◌, if◌then◌else◌, Bool, List, [], ◌∷◌, filter, Option, Some, None, is_some, codes, Contains}
+use Rattle.std.specs.Prelude.{ℕ, nat_eq, ◌&&◌, ◌||◌, if◌then◌else◌, Bool, List, [], ◌∷◌, Option, Some, None, is_some, codes, Contains}
 use Rattle.tpf_decode.specs.Profiles.{Profile, Base, Typed, includes}
 use Rattle.tpf_decode.specs.Opcodes.{roles_of, form_of}
 use Rattle.tpf_decode.specs.declared.argument.Role.{Role}
@@ -43,22 +43,16 @@ declaration_table =
     naming 156 (codes "dcl_uav_typed") Uav 1 Typed ∷
     []
 
-abbrev pub declared_in : ℕ → List DeclarationRow → Option DeclarationRow
-declared_in code [] = None
-declared_in code (row ∷ rows) = if nat_eq row.code code then Some row else declared_in code rows
-
-unfoldable pub declared_by : Profile → ℕ → Option DeclarationRow
-unfolding declaration_table
-declared_by profile code = declared_in code (filter (λ (row : DeclarationRow). includes profile row.since) declaration_table)
-
-abbrev pub layout_in : Option DeclarationRow → Option Layout
-layout_in None = None
-layout_in (Some row) = Some (record { role = row.role; kind = row.kind; words = row.words })
+-- what the row of an opcode says, where the profile has one
+abbrev pub layout_in : Profile → ℕ → List DeclarationRow → Option Layout
+layout_in profile code [] = None
+layout_in profile code (row ∷ rows) =
+    if includes profile row.since && nat_eq row.code code then Some (record { role = row.role; kind = row.kind; words = row.words })
+    else layout_in profile code rows
 
 -- what follows the opcode's tokens, where the profile has a declaration of it
 unfoldable pub layout_of : Profile → ℕ → Option Layout
-unfolding declared_by
-layout_of profile code = layout_in (declared_by profile code)
+layout_of profile code = layout_in profile code declaration_table
 
 -- an instruction or a declaration of the profile
 abbrev pub is_known : Profile → ℕ → Bool

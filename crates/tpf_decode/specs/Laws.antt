@@ -5,7 +5,7 @@ use Rattle.word_base.specs.Rules.{first}
 use Rattle.tpf_decode.specs.declared.argument.Argument.{Argument}
 use Rattle.tpf_decode.specs.declared.argument.Role.{Role}
 use Rattle.tpf_decode.specs.declared.extent.Extent.{Extent}
-use Rattle.tpf_decode.specs.Profiles.{Profile, Base}
+use Rattle.tpf_decode.specs.Profiles.{Profile}
 use Rattle.tpf_decode.specs.Spelling.{SpellsOperand, Spells}
 use Rattle.tpf_decode.specs.Refusals.{Rest, nothing, IsOrderly, operand_faults, operands_faults, cut_faults, faults_with, IsExtent}
 
@@ -42,9 +42,9 @@ WordsTellInstruction =
 -- Where an opcode's tokens break no rule, what stands behind them is tested.
 abbrev pub PassesHead : Type 0
 PassesHead =
-    (rest : ℕ → Rest) (words : List ℕ) (n at : ℕ) (e : Extent) → at < n → n ≤ length words
-    → first (cut_faults Base at (slice_range words at n)) ≡ None → IsExtent Base words n at e → nat_eq e.code 53 ≡ false
-    → faults_with Base rest at (slice_range words at n) ≡ rest e.code e.first (slice_range words e.first e.end)
+    (profile : Profile) (rest : ℕ → Rest) (words : List ℕ) (n at : ℕ) (e : Extent) → at < n → n ≤ length words
+    → first (cut_faults profile at (slice_range words at n)) ≡ None → IsExtent profile words n at e → nat_eq e.code 53 ≡ false
+    → faults_with profile rest at (slice_range words at n) ≡ rest e.code e.first (slice_range words e.first e.end)
 
 -- What is refused of an opcode's tokens is the first refusal, whatever is tested behind them.
 abbrev pub RefusesHead : Type 0

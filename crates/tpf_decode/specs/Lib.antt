@@ -2,6 +2,7 @@ pub mod Profiles
 pub mod Tokens
 pub mod Opcodes
 pub mod Declarations
+pub mod Names
 pub mod Roles
 pub mod Spelling
 pub mod Refusals

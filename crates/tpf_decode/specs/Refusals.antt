@@ -8,19 +8,15 @@ use Rattle.tpf_decode.specs.declared.chain.Extended.TheVariants.{Opcode, Operand
 use Rattle.tpf_decode.specs.declared.extent.Extent.{Extent}
 use Rattle.tpf_decode.specs.Profiles.{Profile, Base}
 use Rattle.tpf_decode.specs.Tokens.{opcode_of, controls_of, length_of, class_of, follows, has_flag, is_opcode_extension, kind_of, has_selection, fixed_of, fixed_count, element_of, immediate_count, has_relative, is_modifier}
-use Rattle.tpf_decode.specs.Opcodes.{form_of, is_result, row_of, opcode_table}
-use Rattle.tpf_decode.specs.Declarations.{is_known, layout_of, roles_at, declared_by, declaration_table}
+use Rattle.tpf_decode.specs.Opcodes.{form_of, is_result, meaning_of, opcode_table}
+use Rattle.tpf_decode.specs.Declarations.{is_known, layout_of, roles_at, declaration_table}
 use Rattle.tpf_decode.specs.Roles.{is_allowed, takes, is_declaration, has_indices, is_relative, index_count, may_negate}
 use Rattle.tpf_decode.specs.Spelling.{is_vectors, further_words, SpellsHead, SpellsCustom}
 use Rattle.word_base.specs.declared.rule.Rule.{Rule}
 use Rattle.word_base.specs.declared.rule.Rule.TheVariants.{K1, K2, M2, K3, K4, K5, K6, K7, K8, K9, K10, K11, K12, K13, K14, K15}
 use Rattle.word_base.specs.declared.rule.Refusal.{Refusal}
-use Rattle.word_base.specs.Rules.{refusal, first, order_of}
+use Rattle.word_base.specs.Rules.{refusal, broken, first, order_of}
 use Rattle.word_base.specs.Words.{field_of}
-
--- a rule that is broken where the test holds
-abbrev pub broken : Bool → Rule → ℕ → List Refusal
-broken test rule place = if test then refusal rule place ∷ [] else []
 
 -- tests of one place, each with the rule that it breaks, and the rule of the first that holds
 pub record Test : Type 0 where
@@ -226,25 +222,25 @@ pub record IsExtent (profile : Profile) (words : List ℕ) (n at : ℕ) (e : Ext
 
 -- Examples: two instructions whose words are all there, and one of each kind that is refused.
 pub quotient : instruction_faults Base 13 (0x0E00004E ∷ 0x00100032 ∷ 0 ∷ 0x0000D000 ∷ 0x00004002 ∷ 7 ∷ 7 ∷ 0 ∷ 0 ∷ 0x00004002 ∷ 0 ∷ 3 ∷ 0 ∷ 0 ∷ 0x0100003E ∷ []) ≡ []
-unfolding form_of row_of opcode_table layout_of declared_by declaration_table
+unfolding form_of meaning_of opcode_table layout_of declaration_table
 quotient = refl
 
 pub relative_source : instruction_faults Base 28 (0x08000036 ∷ 0x00100012 ∷ 1 ∷ 0x0620300A ∷ 1 ∷ 3 ∷ 0x0010000A ∷ 0 ∷ []) ≡ []
-unfolding form_of row_of opcode_table layout_of declared_by declaration_table
+unfolding form_of meaning_of opcode_table layout_of declaration_table
 relative_source = refl
 
 pub negated_move : first (instruction_faults Base 8 (0x06000036 ∷ 0x00100012 ∷ 0 ∷ 0x8010001A ∷ 0x41 ∷ 0 ∷ 0x0100003E ∷ [])) ≡ Some (refusal K10 12)
-unfolding form_of row_of opcode_table layout_of declared_by declaration_table
+unfolding form_of meaning_of opcode_table layout_of declaration_table
 negated_move = refl
 
 pub float_add : first (instruction_faults Base 6 (0x01000000 ∷ [])) ≡ Some (refusal K4 6)
-unfolding form_of row_of opcode_table layout_of declared_by declaration_table
+unfolding form_of meaning_of opcode_table layout_of declaration_table
 float_add = refl
 
 pub past_the_end : first (instruction_faults Base 6 (0x0200003E ∷ [])) ≡ Some (refusal K3 6)
-unfolding form_of row_of opcode_table layout_of declared_by declaration_table
+unfolding form_of meaning_of opcode_table layout_of declaration_table
 past_the_end = refl
 
 pub left_over : first (instruction_faults Base 6 (0x0200003E ∷ 0 ∷ [])) ≡ Some (refusal K11 7)
-unfolding form_of row_of opcode_table layout_of declared_by declaration_table
+unfolding form_of meaning_of opcode_table layout_of declaration_table
 left_over = refl

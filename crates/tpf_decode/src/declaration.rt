@@ -17,7 +17,7 @@ pub struct Layout {
 
 /// What follows the tokens of a declaration, and None where the base profile has no declaration of
 /// the opcode.
-#[tactic(auto, unfolding(crate::specs::Declarations::layout_of, crate::specs::Declarations::declared_by, crate::specs::Declarations::declaration_table))]
+#[tactic(auto, unfolding(crate::specs::Declarations::layout_of, crate::specs::Declarations::declaration_table))]
 pub fn declaration_layout(code: u32) -> Option<Layout>
     ensures { result ≡ layout_of Base code }
 {

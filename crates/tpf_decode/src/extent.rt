@@ -2,7 +2,7 @@ ghost use Rattle.std.specs.Prelude.{◌≡◌, ℕ, ◌+◌, ◌-◌, ◌<◌, �
 ghost use Rattle.word_base.specs.Words.{words_of};
 ghost use Rattle.word_base.specs.declared.rule.Rule.TheVariants.{K13};
 ghost use Rattle.word_base.specs.declared.rule.Refusal.{Refusal};
-ghost use Rattle.word_base.specs.Rules.{first};
+ghost use Rattle.word_base.specs.Rules.{broken, first};
 ghost use Rattle.tpf_decode.specs.declared.argument.Argument.{Argument};
 ghost use Rattle.tpf_decode.specs.declared.argument.Role.{Role};
 ghost use Rattle.tpf_decode.specs.declared.extent.Extent.{Extent};
@@ -10,7 +10,7 @@ ghost use Rattle.tpf_decode.specs.Spelling.{words_between, Spells};
 ghost use Rattle.tpf_decode.specs.Profiles.{Profile, Base};
 ghost use Rattle.tpf_decode.specs.Laws.{WordsTellInstruction, PassesHead, RefusesHead};
 ghost use Rattle.tpf_decode.specs.Tokens.{opcode_of};
-ghost use Rattle.tpf_decode.specs.Refusals.{Rest, IsOrderly, faults_with, operands_faults, refusal_of, header_faults, cut_faults, head_faults, nothing, has_wrong_sync, has_wrong_flags, is_custom, is_custom_size, IsExtent, broken, first_rule, head_tests};
+ghost use Rattle.tpf_decode.specs.Refusals.{Rest, IsOrderly, faults_with, operands_faults, refusal_of, header_faults, cut_faults, head_faults, nothing, has_wrong_sync, has_wrong_flags, is_custom, is_custom_size, IsExtent, first_rule, head_tests};
 
 use crate::chain::{Extended, chain_end};
 use crate::declaration::declaration_layout;

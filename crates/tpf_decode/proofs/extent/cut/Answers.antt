@@ -3,10 +3,10 @@ use Rattle.std.specs.Prelude.{slice_range, slice_index, if◌then◌else◌}
 use Rattle.std.proofs.lemmas.Bool.Decides.{nat_tests}
 use Rattle.word_base.specs.declared.rule.Rule.TheVariants.{K13}
 use Rattle.word_base.specs.Words.{words_of}
-use Rattle.word_base.specs.Rules.{first}
+use Rattle.word_base.specs.Rules.{broken, first}
 use Rattle.tpf_decode.specs.Profiles.{Base}
 use Rattle.tpf_decode.specs.Tokens.{opcode_of}
-use Rattle.tpf_decode.specs.Refusals.{cut_faults, broken, head_faults, is_custom, nothing}
+use Rattle.tpf_decode.specs.Refusals.{cut_faults, head_faults, is_custom, nothing}
 use Rattle.tpf_decode.proofs.Ranges.{range_cons}
 use Rattle.tpf_decode.proofs.extent.cut.Goals as goal
 

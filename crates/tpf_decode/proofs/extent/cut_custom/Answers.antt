@@ -2,9 +2,10 @@ use Rattle.std.proofs.Common.{◌≡◌, ◌<◌, ◌+◌, ◌-◌, ◌*◌, tru
 use Rattle.std.specs.Prelude.{slice_range, slice_index}
 use Rattle.word_base.specs.declared.rule.Rule.TheVariants.{K13}
 use Rattle.word_base.specs.Words.{words_of}
-use Rattle.word_base.specs.Rules.{first}
+use Rattle.word_base.specs.Rules.{broken, first}
 use Rattle.tpf_decode.specs.Tokens.{class_of, opcode_of, controls_of}
-use Rattle.tpf_decode.specs.Refusals.{refusal_of, broken, is_custom, is_custom_size}
+use Rattle.tpf_decode.specs.Refusals.{refusal_of, is_custom, is_custom_size}
+use Rattle.tpf_decode.specs.Profiles.{Base}
 use Rattle.tpf_decode.proofs.Heads.{custom_size, no_size, custom_spelled}
 use Rattle.tpf_decode.proofs.extent.cut_custom.Goals as goal
 
@@ -42,7 +43,7 @@ returns-clause-extent c =
     ∙ (ap (λ k. is_custom_size (class_of k) c.word-size.result (c.args.n - c.args.at)) (sym c.requires.token)
     ∙ (ap (λ k. is_custom_size k c.word-size.result (c.args.n - c.args.at)) (sym c.field.ensures)
     ∙ (sym c.is_sound_size.ensures ∙ c.if-not-is_sound_size.false))) in
-    custom_spelled w c.args.n c.args.at (record { code = c.field-2.result; controls = c.field-3.result * 2048; first = c.args.at + 1; end = c.args.at + c.word-size.result })
+    custom_spelled Base w c.args.n c.args.at (record { code = c.field-2.result; controls = c.field-3.result * 2048; first = c.args.at + 1; end = c.args.at + c.word-size.result })
     h c.requires.words (ap opcode_of (sym c.requires.token) ∙ c.requires.custom) t
     (c.field-2.ensures ∙ ap opcode_of c.requires.token)
     (ap (λ k. k * 2048) c.field-3.ensures ∙ ap controls_of c.requires.token)

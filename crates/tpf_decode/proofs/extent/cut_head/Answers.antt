@@ -16,7 +16,7 @@ pub returns-in-Some-clause-refused : goal.returns-in-Some-clause-refused
 returns-in-Some-clause-refused c =
     let w = words_of c.args.bytes.now in
     ap refusal_of c.refuse.ensures
-    ∙ sym (first_in_program w c.args.n c.args.at c.args.token c.requires.inside c.requires.words
+    ∙ sym (first_in_program Base w c.args.n c.args.at c.args.token c.requires.inside c.requires.words
     ∙ ap (λ o. by_rule o c.args.at (first (chain_faults Opcode (follows c.args.token) nothing (c.args.at + 1) (take (length_of c.args.token - 1) (slice_range w (c.args.at + 1) c.args.n)))))
     (sym c.head_rule.ensures ∙ c.in-Some.is))
 
@@ -29,7 +29,7 @@ returns-in_err-first-clause-refused c =
     (c.in_err-first.ensures.refused
     ∙ (ap (λ b. first (chain_faults Opcode b nothing (c.args.at + 1) (slice_range w (c.args.at + 1) (c.args.at + c.field.result)))) c.is_set.ensures
     ∙ (ap (λ l. first (chain_faults Opcode (follows c.args.token) nothing (c.args.at + 1) (slice_range w (c.args.at + 1) (c.args.at + l)))) c.field.ensures
-    ∙ sym (head_in_program w c.args.n c.args.at c.args.token c.requires.inside c.requires.words none))))
+    ∙ sym (head_in_program Base w c.args.n c.args.at c.args.token c.requires.inside c.requires.words none))))
 
 pub returns-clause-refused : goal.returns-clause-refused
 returns-clause-refused c =
@@ -38,7 +38,7 @@ returns-clause-refused c =
     c.in_ok-first.ensures.refused
     ∙ (ap (λ b. first (chain_faults Opcode b nothing (c.args.at + 1) (slice_range w (c.args.at + 1) (c.args.at + c.field.result)))) c.is_set.ensures
     ∙ (ap (λ l. first (chain_faults Opcode (follows c.args.token) nothing (c.args.at + 1) (slice_range w (c.args.at + 1) (c.args.at + l)))) c.field.ensures
-    ∙ sym (head_in_program w c.args.n c.args.at c.args.token c.requires.inside c.requires.words none)))
+    ∙ sym (head_in_program Base w c.args.n c.args.at c.args.token c.requires.inside c.requires.words none)))
 
 pub returns-clause-extent : goal.returns-clause-extent
 returns-clause-extent c =
@@ -46,7 +46,7 @@ returns-clause-extent c =
     let e = c.requires.token in
     let none : first_rule (head_tests Base (c.args.n - c.args.at) (slice_index w c.args.at)) ≡ None =
     ap (λ t. first_rule (head_tests Base (c.args.n - c.args.at) t)) (sym e) ∙ (sym c.head_rule.ensures ∙ c.in_default.is) in
-    head_spelled w c.args.n c.args.at (record { code = c.field-2.result; controls = c.field-3.result * 2048; first = c.in_ok-first.first; end = c.args.at + c.field.result })
+    head_spelled Base w c.args.n c.args.at (record { code = c.field-2.result; controls = c.field-3.result * 2048; first = c.in_ok-first.first; end = c.args.at + c.field.result })
     c.requires.inside c.requires.words (λ o. c.requires.other (ap opcode_of e ∙ o)) none
     (c.field-2.ensures ∙ ap opcode_of e)
     (ap (λ k. k * 2048) c.field-3.ensures ∙ ap controls_of e)

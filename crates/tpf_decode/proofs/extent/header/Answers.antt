@@ -3,8 +3,8 @@ use Rattle.std.proofs.lemmas.Bool.Decides.{nat_tests}
 use Rattle.std.specs.Prelude.{length, slice_index, nat_lt}
 use Rattle.word_base.specs.declared.rule.Rule.TheVariants.{K1, K2, M2}
 use Rattle.word_base.specs.Words.{words_of}
-use Rattle.word_base.specs.Rules.{refusal, first}
-use Rattle.tpf_decode.specs.Refusals.{broken, refusal_of}
+use Rattle.word_base.specs.Rules.{broken, refusal, first}
+use Rattle.tpf_decode.specs.Refusals.{refusal_of}
 use Rattle.tpf_decode.proofs.extent.header.Goals as goal
 
 version_first : (v t u : Bool) → v ≡ true → first (broken v K1 0 ++ (broken t K2 1 ++ broken u M2 1)) ≡ Some (refusal K1 0)
