@@ -1,7 +1,8 @@
 -- A module has the form exactly where it breaks none of the conditions.
 use Rattle.std.proofs.Common.{◌≡◌, ℕ, Bool, true, false, List, [], refl}
+use Rattle.word_base.specs.Settings.{Axes}
 use Rattle.spirv_words.specs.Text.{Module}
-use Rattle.spirv_words.specs.Sections.{Group, has_header, has_sections, has_interface}
+use Rattle.spirv_words.specs.Sections.{has_header, has_sections, has_interface}
 use Rattle.spirv_words.specs.Definitions.{has_single_definitions, has_distinct_types, has_sorts, has_local_results}
 use Rattle.spirv_words.specs.Structure.{has_blocks, has_merges, has_branches, has_switch_order}
 use Rattle.spirv_words.specs.Variables.{Wanted, has_variables}
@@ -13,10 +14,10 @@ held : (test : Bool) (c : Condition) (rest : List Condition) → unless test c r
 held true c rest e = (refl, e)
 held false c rest e = absurd cc
 
-pub whole : (version : ℕ) (group : Group) (wanted : Wanted) (m : Module) → broken_in version group wanted m ≡ [] → Form version group wanted m
-whole version group wanted m e =
+pub whole : (version : ℕ) (threads : Axes) (wanted : Wanted) (m : Module) → broken_in version threads wanted m ≡ [] → Form version threads wanted m
+whole version threads wanted m e =
     let header = held (has_header version m) Header _ e in
-    let sections = held (has_sections group m.code) Sections _ header.1 in
+    let sections = held (has_sections threads m.code) Sections _ header.1 in
     let single = held (has_single_definitions m.bound m.code) SingleDefinition _ sections.1 in
     let distinct = held (has_distinct_types m.code) DistinctTypes _ single.1 in
     let sorts = held (has_sorts m.code) Sorts _ distinct.1 in
@@ -42,8 +43,8 @@ whole version group wanted m e =
       interface = interface.0;
     }
 
-pub back : (version : ℕ) (group : Group) (wanted : Wanted) (m : Module) → Form version group wanted m → broken_in version group wanted m ≡ []
-back version group wanted m f =
+pub back : (version : ℕ) (threads : Axes) (wanted : Wanted) (m : Module) → Form version threads wanted m → broken_in version threads wanted m ≡ []
+back version threads wanted m f =
     rw (
       f.header,
       f.sections,

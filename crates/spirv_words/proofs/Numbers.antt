@@ -1,6 +1,6 @@
 -- The numbers of instructions.
-use Rattle.std.proofs.Common.{◌≡◌, ℕ, ◌<◌, Bool, true, false, if◌then◌else◌, List, [], ◌∷◌, ◌++◌, Option, Some, None, nat_eq, nat_lt, ◌&&◌, length, arith, refl, sym, ap, ◌∙◌}
-use Rattle.std.proofs.lemmas.Bool.{eqb-true, ltb-true}
+use Rattle.std.proofs.Common.{◌≡◌, ℕ, ◌<◌, Bool, true, false, if◌then◌else◌, List, [], ◌∷◌, ◌++◌, Option, Some, None, nat_eq, nat_lt, length, arith, refl, sym, ap, ◌∙◌}
+use Rattle.std.proofs.lemmas.Bool.{eqb-true, ltb-true, and_parts}
 use Rattle.std.proofs.lemmas.List.{append_assoc}
 use Rattle.spirv_words.specs.Operations.{Op, OpCapability, number_of, all_ops, op_among, op_of}
 use Rattle.spirv_words.specs.Text.{instr, fits_op, IsInstr}
@@ -39,17 +39,9 @@ fits_number : (n : ℕ) (o : Option Op) (operands : List ℕ) → op_of n ≡ o 
 fits_number n None operands e h = absurd cc
 fits_number n (Some op) operands e h = short_number n op e
 
-pub first_true : (a b : Bool) → (a && b) ≡ true → a ≡ true
-first_true true b h = refl
-first_true false b h = absurd cc
-
-pub second_true : (a b : Bool) → (a && b) ≡ true → b ≡ true
-second_true true b h = h
-second_true false b h = absurd cc
-
 -- an instruction's number and its operands, from the test that it is one
 pub number_is_short : (op : ℕ) (operands : List ℕ) → IsInstr (instr op operands) → op < 256
-number_is_short op operands h = fits_number op (op_of op) operands refl (first_true (fits_op (op_of op) operands) (nat_lt (length operands) 65535) h)
+number_is_short op operands h = fits_number op (op_of op) operands refl (and_parts (fits_op (op_of op) operands) (nat_lt (length operands) 65535) h).0
 
 pub operands_are_short : (op : ℕ) (operands : List ℕ) → IsInstr (instr op operands) → length operands < 65535
-operands_are_short op operands h = ltb-true (length operands) 65535 (second_true (fits_op (op_of op) operands) (nat_lt (length operands) 65535) h)
+operands_are_short op operands h = ltb-true (length operands) 65535 (and_parts (fits_op (op_of op) operands) (nat_lt (length operands) 65535) h).1

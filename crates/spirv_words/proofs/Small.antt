@@ -1,21 +1,19 @@
 -- The smallest module has the form.
-use Rattle.std.proofs.Common.{◌≡◌, ℕ, Bool, true, ◌&&◌, nat_eq, IsTrue, refl}
-use Rattle.std.proofs.lemmas.Bool.{eq-eqb}
+use Rattle.std.proofs.Common.{◌≡◌, ℕ, true, nat_eq, IsTrue, refl}
+use Rattle.std.proofs.lemmas.Bool.{eq-eqb, and_from}
+use Rattle.word_base.specs.Settings.{axes}
 use Rattle.spirv_words.specs.Smallest.{smallest}
 use Rattle.spirv_words.specs.Text.{is_version}
-use Rattle.spirv_words.specs.Sections.{sized, has_sections}
+use Rattle.spirv_words.specs.Sections.{has_sections}
 use Rattle.spirv_words.specs.Variables.{nothing_wanted}
 use Rattle.spirv_words.specs.Form.{Form}
 
-and_true : (a b : Bool) → a ≡ true → b ≡ true → (a && b) ≡ true
-and_true a b ha hb = rw (ha, hb) refl
-
-sectioned : (version x y z : ℕ) → has_sections (sized x y z) (smallest version x y z).code ≡ true
+sectioned : (version x y z : ℕ) → has_sections (axes x y z) (smallest version x y z).code ≡ true
 sectioned version x y z = rw (eq-eqb x x refl, eq-eqb y y refl, eq-eqb z z refl) refl
 
-pub form : (version x y z : ℕ) → IsTrue (is_version version) → Form version (sized x y z) nothing_wanted (smallest version x y z)
+pub form : (version x y z : ℕ) → IsTrue (is_version version) → Form version (axes x y z) nothing_wanted (smallest version x y z)
 form version x y z h = record {
-  header = and_true (is_version version) (nat_eq version version) h (eq-eqb version version refl);
+  header = and_from (is_version version) (nat_eq version version) h (eq-eqb version version refl);
   sections = sectioned version x y z;
   single_definition = refl;
   distinct_types = refl;

@@ -1,9 +1,11 @@
 -- The words of instructions, and that a text has one module.
-use Rattle.std.proofs.Common.{◌≡◌, ℕ, ◌+◌, ◌*◌, ◌<◌, List, [], ◌∷◌, ◌++◌, length, IsTrue, refl, sym, ap, ◌∙◌, arith}
+use Rattle.std.proofs.Common.{◌≡◌, ℕ, ◌+◌, ◌*◌, ◌<◌, List, [], ◌∷◌, ◌++◌, length, slice_index, ◌^◌, IsTrue, refl, sym, ap, ◌∙◌, arith}
 use Rattle.std.specs.List.{list_all}
+use Rattle.std.proofs.lemmas.Bool.{and_parts}
 use Rattle.std.proofs.lemmas.List.{append_assoc}
 use Rattle.spirv_words.specs.Text.{Instr, Module, instr, is_instr, IsInstr, IsTextOf, header_of, words_of_instr, words_of_code}
-use Rattle.spirv_words.proofs.Numbers.{number_is_short, first_true, second_true}
+use Rattle.spirv_words.specs.TextExamples.{wide}
+use Rattle.spirv_words.proofs.Numbers.{number_is_short}
 
 pub append : (xs ys : List Instr) → words_of_code (xs ++ ys) ≡ words_of_code xs ++ words_of_code ys
 append [] ys = refl
@@ -33,14 +35,14 @@ same_code [] [] hx hy e = refl
 same_code [] (y ∷ ys) hx hy e = absurd cc
 same_code (x ∷ xs) [] hx hy e = absurd cc
 same_code (x ∷ xs) (y ∷ ys) hx hy e =
-    let px : IsInstr x = first_true (is_instr x) (list_all is_instr xs) hx in
-    let py : IsInstr y = first_true (is_instr y) (list_all is_instr ys) hy in
+    let px : IsInstr x = (and_parts (is_instr x) (list_all is_instr xs) hx).0 in
+    let py : IsInstr y = (and_parts (is_instr y) (list_all is_instr ys) hy).0 in
     let word : 65536 * (length x.operands + 1) + x.op ≡ 65536 * (length y.operands + 1) + y.op = cc in
     let rest : x.operands ++ words_of_code xs ≡ y.operands ++ words_of_code ys = cc in
     let lengths = count_of (length x.operands) (length y.operands) x.op y.op (number_is_short x.op x.operands px) (number_is_short y.op y.operands py) word in
     let numbers = number_of_word (length x.operands) (length y.operands) x.op y.op lengths word in
     let parts = same_front x.operands y.operands (words_of_code xs) (words_of_code ys) lengths rest in
-    let further = same_code xs ys (second_true (is_instr x) (list_all is_instr xs) hx) (second_true (is_instr y) (list_all is_instr ys) hy) parts.1 in
+    let further = same_code xs ys (and_parts (is_instr x) (list_all is_instr xs) hx).1 (and_parts (is_instr y) (list_all is_instr ys) hy).1 parts.1 in
     same_instrs x.op y.op x.operands y.operands xs ys numbers parts.0 further where
       same_instrs : (p q : ℕ) (us vs : List ℕ) (is js : List Instr) → p ≡ q → us ≡ vs → is ≡ js → instr p us ∷ is ≡ instr q vs ∷ js
       same_instrs p q us vs is js hp ha hi = rw (hp, ha, hi) refl
@@ -56,3 +58,10 @@ determined m n words a b =
       same_module : (v w b c : ℕ) (is js : List Instr) → v ≡ w → b ≡ c → is ≡ js
           → Prim.Path Module (record { version = v; bound = b; code = is }) (record { version = w; bound = c; code = js })
       same_module v w b c is js hv hb hi = rw (hv, hb, hi) refl
+
+-- a module whose ids are no words has no text
+pub wide_has_no_text : (text : List ℕ) → IsTextOf wide text → ⊥
+wide_has_no_text text t =
+    let at_bound : slice_index text 3 < 2 ^ 32 = t.words 3 in
+    let bound : slice_index text 3 ≡ 5 * 2 ^ 32 = ap (λ ws. slice_index ws 3) t.is_text in
+    omega (arith, at_bound, bound)

@@ -2,44 +2,14 @@
 -- 2.2.5 and 2.11, Structured Control Flow). Blocks are counted from 1 in list order; 0 stands for all that is in front of them, and for
 -- a label that no block has.
 use Rattle.std.specs.Prelude.{◌≡◌, ℕ, ◌+◌, nat_eq, if◌then◌else◌, List, [], ◌∷◌, ◌++◌, map, Option, Some, None, refl}
-use Rattle.spirv_words.specs.Operations.{Op, op_of, OpFunction, OpFunctionEnd, OpVariable, OpLabel, OpSelectionMerge, OpLoopMerge, OpBranch, OpBranchConditional, OpSwitch, OpReturn, OpUnreachable}
-use Rattle.spirv_words.specs.Text.{Instr, instr}
-use Rattle.spirv_words.specs.Ids.{seconds}
+pub use Rattle.spirv_words.specs.Roles.{Flow, Plain, Local, Begins, Closes, Label, Merge, LoopMerge, Branch, Choose, Switch, Leave}
+use Rattle.spirv_words.specs.Operations.{Op, OpLabel, OpSelectionMerge, OpBranch, OpBranchConditional, OpReturn, row_of, op_of}
+use Rattle.spirv_words.specs.Text.{Instr, instruction}
 
--- What an instruction is to the blocks. One that branches in no form of the table is plain, so that its block has no end.
-pub data Flow : Type 0 where
-  Plain : Flow
-  Local : Flow
-  Begins : Flow
-  Closes : Flow
-  Label : (label : ℕ) → Flow
-  Merge : (merge : ℕ) → Flow
-  LoopMerge : (merge continue : ℕ) → Flow
-  Branch : (label : ℕ) → Flow
-  Choose : (first second : ℕ) → Flow
-  Switch : (other : ℕ) (targets : List ℕ) → Flow
-  Leave : Flow
-
-abbrev pub variable_flow : ℕ → Flow
-variable_flow class = if nat_eq class 7 then Local else Plain
-
-abbrev pub flow_by : Op → List ℕ → Flow
-flow_by OpLabel (label ∷ []) = Label label
-flow_by OpSelectionMerge (merge ∷ control ∷ []) = Merge merge
-flow_by OpLoopMerge (merge ∷ continue ∷ control ∷ []) = LoopMerge merge continue
-flow_by OpBranch (label ∷ []) = Branch label
-flow_by OpBranchConditional (c ∷ first ∷ second ∷ []) = Choose first second
-flow_by OpSwitch (x ∷ other ∷ cases) = Switch other (seconds cases)
-flow_by OpReturn os = Leave
-flow_by OpUnreachable os = Leave
-flow_by OpVariable (t ∷ r ∷ class ∷ rest) = variable_flow class
-flow_by OpFunction os = Begins
-flow_by OpFunctionEnd os = Closes
-flow_by op os = Plain
-
+-- what an instruction is to the blocks
 abbrev pub flow_of_op : Option Op → List ℕ → Flow
 flow_of_op None os = Plain
-flow_of_op (Some op) os = flow_by op os
+flow_of_op (Some op) os = (row_of op).flow os
 
 abbrev pub flow_of : Instr → Flow
 flow_of i = flow_of_op (op_of i.op) i.operands
@@ -116,9 +86,9 @@ spans code = spans_from (block_of code) code 0
 -- Example: a selection of one block, by its branches and its construct.
 abbrev pub one_choice : List Instr
 one_choice =
-    instr 248 (10 ∷ []) ∷ instr 247 (12 ∷ 0 ∷ []) ∷ instr 250 (5 ∷ 11 ∷ 12 ∷ []) ∷
-    instr 248 (11 ∷ []) ∷ instr 249 (12 ∷ []) ∷
-    instr 248 (12 ∷ []) ∷ instr 253 [] ∷ []
+    instruction OpLabel (10 ∷ []) ∷ instruction OpSelectionMerge (12 ∷ 0 ∷ []) ∷ instruction OpBranchConditional (5 ∷ 11 ∷ 12 ∷ []) ∷
+    instruction OpLabel (11 ∷ []) ∷ instruction OpBranch (12 ∷ []) ∷
+    instruction OpLabel (12 ∷ []) ∷ instruction OpReturn [] ∷ []
 
 pub choice_edges : edges one_choice ≡ edge 1 2 ∷ edge 1 3 ∷ edge 2 3 ∷ []
 choice_edges = refl

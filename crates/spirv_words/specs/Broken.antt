@@ -1,8 +1,12 @@
 -- Which conditions of the form a module breaks, as a list: none where it has the form.
 use Rattle.std.specs.Prelude.{ℕ, Bool, if◌then◌else◌, List, [], ◌∷◌, ◌++◌}
-use Rattle.spirv_words.specs.Text.{Instr, Module, instr}
+use Rattle.word_base.specs.Settings.{Axes, axes}
+use Rattle.spirv_words.specs.StorageClass.{Function}
+use Rattle.spirv_words.specs.Enumerants.{GLCompute, GLSL450, LocalSize, Logical, Shader, Version13, main_text}
+use Rattle.spirv_words.specs.Operations.{OpBranch, OpBranchConditional, OpCapability, OpConstant, OpConstantTrue, OpEntryPoint, OpExecutionMode, OpFunction, OpFunctionEnd, OpLabel, OpLoopMerge, OpMemoryModel, OpReturn, OpSelectionMerge, OpSwitch, OpTypeBool, OpTypeFunction, OpTypeInt, OpTypePointer, OpTypeVoid}
+use Rattle.spirv_words.specs.Text.{Instr, Module, instruction}
 use Rattle.spirv_words.specs.Definitions.{has_single_definitions, has_distinct_types, has_sorts, has_local_results}
-use Rattle.spirv_words.specs.Sections.{Group, sized, has_header, has_sections, has_interface}
+use Rattle.spirv_words.specs.Sections.{has_header, has_sections, has_interface}
 use Rattle.spirv_words.specs.Structure.{has_blocks, has_merges, has_branches, has_switch_order}
 use Rattle.spirv_words.specs.Variables.{Wanted, nothing_wanted, has_variables}
 
@@ -23,10 +27,10 @@ pub data Condition : Type 0 where
 abbrev pub unless : Bool → Condition → List Condition → List Condition
 unless test condition rest = if test then rest else condition ∷ rest
 
-abbrev pub broken_in : ℕ → Group → Wanted → Module → List Condition
-broken_in version group wanted m =
+abbrev pub broken_in : ℕ → Axes → Wanted → Module → List Condition
+broken_in version threads wanted m =
     unless (has_header version m) Header (
-    unless (has_sections group m.code) Sections (
+    unless (has_sections threads m.code) Sections (
     unless (has_single_definitions m.bound m.code) SingleDefinition (
     unless (has_distinct_types m.code) DistinctTypes (
     unless (has_sorts m.code) Sorts (
@@ -42,41 +46,46 @@ broken_in version group wanted m =
 -- 2 void, 3 the function's type, 4 truths, 5 words, 6 and 7 the words 0 and 1, 8 the true one and 9 pointers to words.
 abbrev pub shader_of : List Instr → List Instr → List Instr → List Instr → Module
 shader_of decorations declarations variables body = record {
-  version = 0x00010300;
+  version = Version13;
   bound = 100;
   code =
-      instr 17 (1 ∷ []) ∷ instr 14 (0 ∷ 1 ∷ []) ∷
-      instr 15 (5 ∷ 1 ∷ 0x6E69616D ∷ 0 ∷ []) ∷ instr 16 (1 ∷ 17 ∷ 8 ∷ 4 ∷ 1 ∷ []) ∷
-      (decorations ++ (instr 19 (2 ∷ []) ∷ instr 33 (3 ∷ 2 ∷ []) ∷
-      instr 20 (4 ∷ []) ∷ instr 21 (5 ∷ 32 ∷ 0 ∷ []) ∷ instr 43 (5 ∷ 6 ∷ 0 ∷ []) ∷ instr 43 (5 ∷ 7 ∷ 1 ∷ []) ∷ instr 41 (4 ∷ 8 ∷ []) ∷
-      instr 32 (9 ∷ 7 ∷ 5 ∷ []) ∷
-      (declarations ++ (instr 54 (2 ∷ 1 ∷ 0 ∷ 3 ∷ []) ∷ instr 248 (20 ∷ []) ∷ (variables ++ (body ++ (instr 56 [] ∷ [])))))));
+      instruction OpCapability (Shader ∷ []) ∷ instruction OpMemoryModel (Logical ∷ GLSL450 ∷ []) ∷
+      instruction OpEntryPoint (GLCompute ∷ 1 ∷ main_text) ∷
+      instruction OpExecutionMode (1 ∷ LocalSize ∷ 8 ∷ 4 ∷ 1 ∷ []) ∷
+      (decorations ++ (instruction OpTypeVoid (2 ∷ []) ∷ instruction OpTypeFunction (3 ∷ 2 ∷ []) ∷
+      instruction OpTypeBool (4 ∷ []) ∷ instruction OpTypeInt (5 ∷ 32 ∷ 0 ∷ []) ∷
+      instruction OpConstant (5 ∷ 6 ∷ 0 ∷ []) ∷ instruction OpConstant (5 ∷ 7 ∷ 1 ∷ []) ∷
+      instruction OpConstantTrue (4 ∷ 8 ∷ []) ∷
+      instruction OpTypePointer (9 ∷ Function ∷ 5 ∷ []) ∷
+      (declarations ++
+      (instruction OpFunction (2 ∷ 1 ∷ 0 ∷ 3 ∷ []) ∷ instruction OpLabel (20 ∷ []) ∷
+      (variables ++ (body ++ (instruction OpFunctionEnd [] ∷ [])))))));
 }
 
 abbrev pub shader : List Instr → Module
 shader body = shader_of [] [] [] body
 
 abbrev pub broken : Module → List Condition
-broken m = broken_in 0x00010300 (sized 8 4 1) nothing_wanted m
+broken m = broken_in Version13 (axes 8 4 1) nothing_wanted m
 
 -- instructions of bodies
 abbrev pub label : ℕ → Instr
-label l = instr 248 (l ∷ [])
+label l = instruction OpLabel (l ∷ [])
 
 abbrev pub goto : ℕ → Instr
-goto l = instr 249 (l ∷ [])
+goto l = instruction OpBranch (l ∷ [])
 
 abbrev pub choose : ℕ → ℕ → Instr
-choose l k = instr 250 (8 ∷ l ∷ k ∷ [])
+choose l k = instruction OpBranchConditional (8 ∷ l ∷ k ∷ [])
 
 abbrev pub select_to : ℕ → Instr
-select_to m = instr 247 (m ∷ 0 ∷ [])
+select_to m = instruction OpSelectionMerge (m ∷ 0 ∷ [])
 
 abbrev pub loop_to : ℕ → ℕ → Instr
-loop_to m c = instr 246 (m ∷ c ∷ 0 ∷ [])
+loop_to m c = instruction OpLoopMerge (m ∷ c ∷ 0 ∷ [])
 
 abbrev pub switch_to : ℕ → List ℕ → Instr
-switch_to other cases = instr 251 (6 ∷ other ∷ cases)
+switch_to other cases = instruction OpSwitch (6 ∷ other ∷ cases)
 
 abbrev pub leave : Instr
-leave = instr 253 []
+leave = instruction OpReturn []

@@ -1,11 +1,13 @@
 -- The conditions on ids and their sorts (SPIR-V specification, unified1, sections 2.4 and 2.16, Universal Validation Rules).
-use Rattle.std.specs.Prelude.{ℕ, nat_eq, nat_lt, Bool, true, false, ◌&&◌, ◌||◌, not, List, [], ◌∷◌, ◌++◌, filter, Option, Some}
+use Rattle.std.specs.Prelude.{ℕ, nat_eq, nat_lt, Bool, true, false, ◌&&◌, ◌||◌, not, List, [], ◌∷◌, ◌++◌, filter, Option}
+use Rattle.std.specs.Cmp.Lexicographic.{pointwise}
 use Rattle.std.specs.List.{list_any, list_all}
-use Rattle.spirv_words.specs.Operations.{Op, op_of, OpTypeVoid, OpTypeBool, OpTypeInt, OpTypeVector, OpTypePointer, OpTypeFunction}
+use Rattle.spirv_words.specs.Roles.{Defined, ATypeOnce, Flow, Label, Local}
+use Rattle.spirv_words.specs.Operations.{Op, op_of}
 use Rattle.spirv_words.specs.Text.{Instr}
-use Rattle.spirv_words.specs.Ids.{ids_of, contains, list_eq}
+use Rattle.spirv_words.specs.Ids.{ids_of, defined_by, contains}
 use Rattle.spirv_words.specs.Operands.{is_sorted}
-use Rattle.spirv_words.specs.Blocks.{Flow, Label, Local, flow_of, next_block}
+use Rattle.spirv_words.specs.Blocks.{flow_of, next_block}
 
 -- SINGLE DEFINITION. Every id is above 0, below the bound and defined once, and in front of its uses. Entry points, modes, decorations,
 -- merges and branches may name an id that is defined later.
@@ -34,21 +36,19 @@ has_single_definitions bound code =
     (uses_follow [] code && names_are_among (results code) code)
 
 -- DISTINCT TYPES. No two types but arrays, runtime arrays and structs are the same instruction, their results aside.
+abbrev pub is_once : Defined → Bool
+is_once ATypeOnce = true
+is_once d = false
+
 abbrev pub is_single_type : Option Op → Bool
-is_single_type (Some OpTypeVoid) = true
-is_single_type (Some OpTypeBool) = true
-is_single_type (Some OpTypeInt) = true
-is_single_type (Some OpTypeVector) = true
-is_single_type (Some OpTypePointer) = true
-is_single_type (Some OpTypeFunction) = true
-is_single_type op = false
+is_single_type op = is_once (defined_by op)
 
 abbrev pub behind_first : List ℕ → List ℕ
 behind_first [] = []
 behind_first (x ∷ xs) = xs
 
 abbrev pub is_same_type : Instr → Instr → Bool
-is_same_type i j = nat_eq i.op j.op && list_eq (behind_first i.operands) (behind_first j.operands)
+is_same_type i j = nat_eq i.op j.op && pointwise nat_eq (behind_first i.operands) (behind_first j.operands)
 
 abbrev pub types_differ : List Instr → Bool
 types_differ [] = true

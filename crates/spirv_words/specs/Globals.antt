@@ -5,8 +5,11 @@ use Rattle.word_base.specs.declared.event.Ids.{Ids}
 use Rattle.word_base.specs.declared.event.Room.{Room}
 use Rattle.word_base.specs.declared.event.Room.TheVariants.{Shared}
 use Rattle.word_base.specs.Settings.{Setting}
-use Rattle.spirv_words.specs.Operations.{Op, op_of, OpConstantTrue, OpConstantFalse, OpConstant, OpConstantNull, OpConstantComposite, OpVariable}
-use Rattle.spirv_words.specs.Text.{Instr}
+use Rattle.spirv_words.specs.StorageClass.{Input, Uniform, Workgroup, Private, PushConstant, StorageBuffer}
+use Rattle.spirv_words.specs.Decoration.{BuiltIn, Binding, DescriptorSet}
+use Rattle.spirv_words.specs.BuiltIn.{WorkgroupId, LocalInvocationId, GlobalInvocationId, LocalInvocationIndex}
+use Rattle.spirv_words.specs.Operations.{Op, op_of, OpDecorate, OpMemberDecorate, OpConstantTrue, OpConstantFalse, OpConstant, OpConstantNull, OpConstantComposite, OpVariable}
+use Rattle.spirv_words.specs.Text.{Instr, is_op}
 use Rattle.spirv_words.specs.Ids.{definition, declared}
 use Rattle.spirv_words.specs.Sorts.{Sort, Words, Truths, Vector, Array, Struct, sort_of}
 use Rattle.spirv_words.specs.Values.{Value, Word, Truth, AtLocal, AtRoom, AtConstants, AtPush, AtInput, Got, of_parts, all_there, cells_of}
@@ -44,11 +47,13 @@ pub record Machine : Type 0 where
 
 -- the literals of the first decoration of that kind on an id, and on a member of it
 abbrev pub decorates : ℕ → ℕ → Instr → Bool
-decorates x kind i = nat_eq i.op 71 && (nat_eq (slice_index i.operands 0) x && nat_eq (slice_index i.operands 1) kind)
+decorates x kind i =
+    is_op OpDecorate i && (nat_eq (slice_index i.operands 0) x && nat_eq (slice_index i.operands 1) kind)
 
 abbrev pub decorates_member : ℕ → ℕ → ℕ → Instr → Bool
 decorates_member x k kind i =
-    nat_eq i.op 72 && (nat_eq (slice_index i.operands 0) x && (nat_eq (slice_index i.operands 1) k && nat_eq (slice_index i.operands 2) kind))
+    is_op OpMemberDecorate i &&
+    (nat_eq (slice_index i.operands 0) x && (nat_eq (slice_index i.operands 1) k && nat_eq (slice_index i.operands 2) kind))
 
 abbrev pub decoration : List Instr → ℕ → ℕ → Option ℕ
 decoration code x kind = option_and_then (λ i. slice_get i.operands 2) (find (decorates x kind) code)
@@ -56,13 +61,15 @@ decoration code x kind = option_and_then (λ i. slice_get i.operands 2) (find (d
 abbrev pub member_decoration : List Instr → ℕ → ℕ → ℕ → Option ℕ
 member_decoration code x k kind = option_and_then (λ i. slice_get i.operands 3) (find (decorates_member x k kind) code)
 
--- descriptor set 34 and binding 33
+-- what is bound at a descriptor set and binding
 abbrev pub bound_room : Places → Option ℕ → Option ℕ → Option Room
-bound_room places (Some set) (Some binding) = option_map (λ p. p.room) (find (λ p. nat_eq p.set set && nat_eq p.binding binding) places.rooms)
+bound_room places (Some set) (Some binding) =
+    option_map (λ p. p.room) (find (λ p. nat_eq p.set set && nat_eq p.binding binding) places.rooms)
 bound_room places set binding = None
 
 abbrev pub bound_slot : Places → Option ℕ → Option ℕ → Option ℕ
-bound_slot places (Some set) (Some binding) = option_map (λ p. p.slot) (find (λ p. nat_eq p.set set && nat_eq p.binding binding) places.slots)
+bound_slot places (Some set) (Some binding) =
+    option_map (λ p. p.slot) (find (λ p. nat_eq p.set set && nat_eq p.binding binding) places.slots)
 bound_slot places set binding = None
 
 -- the word of a push constant, 0 where no constant buffer has it
@@ -75,7 +82,7 @@ push_word m w = pushed m.setting w (find (λ p. nat_le p.first w && nat_lt w (p.
 
 -- The k-th Workgroup variable is the k-th slot of shared memory that has words.
 abbrev pub is_workgroup : Instr → Bool
-is_workgroup i = nat_eq i.op 59 && nat_eq (slice_index i.operands 2) 4
+is_workgroup i = is_op OpVariable i && nat_eq (slice_index i.operands 2) Workgroup
 
 abbrev pub workgroup_ids : List Instr → List ℕ
 workgroup_ids code = map (λ i. slice_index i.operands 1) (filter is_workgroup (declared code))
@@ -86,32 +93,36 @@ filled_slots m = filter (λ k. nat_lt 0 (m.setting.extent (Shared k))) m.places.
 abbrev pub shared_slot : Machine → ℕ → Option ℕ
 shared_slot m x = option_and_then (slice_get (filled_slots m)) (position (nat_eq x) (workgroup_ids m.code))
 
--- the lane's numbers of a built-in: WorkgroupId 26, LocalInvocationId 27, GlobalInvocationId 28, LocalInvocationIndex 29
+-- the lane's numbers of a built-in
 abbrev pub built_in : Ids → ℕ → List ℕ
 built_in ids kind =
-    if nat_eq kind 26 then ids.group_x ∷ ids.group_y ∷ ids.group_z ∷ [] else
-    if nat_eq kind 27 then ids.x ∷ ids.y ∷ ids.z ∷ [] else
-    if nat_eq kind 28 then ids.thread_x ∷ ids.thread_y ∷ ids.thread_z ∷ [] else
-    if nat_eq kind 29 then ids.flat ∷ [] else
+    if nat_eq kind WorkgroupId then ids.group_x ∷ ids.group_y ∷ ids.group_z ∷ [] else
+    if nat_eq kind LocalInvocationId then ids.x ∷ ids.y ∷ ids.z ∷ [] else
+    if nat_eq kind GlobalInvocationId then ids.thread_x ∷ ids.thread_y ∷ ids.thread_z ∷ [] else
+    if nat_eq kind LocalInvocationIndex then ids.flat ∷ [] else
     []
 
 abbrev pub is_built_in : ℕ → Bool
-is_built_in kind = nat_le 26 kind && nat_le kind 29
+is_built_in kind = nat_le WorkgroupId kind && nat_le kind LocalInvocationIndex
 
 abbrev pub input_by : Option ℕ → Option Value
 input_by None = None
 input_by (Some kind) = if is_built_in kind then Some (AtInput kind 0) else None
 
--- a variable by its storage class: Input 1, Uniform 2, Workgroup 4, Private 6, PushConstant 9, StorageBuffer 12
+-- a variable by its storage class, where it has the descriptor set, binding and built-in of its decorations
+abbrev pub variable_by : Machine → ℕ → ℕ → (set binding kind : Option ℕ) → Option Value
+variable_by m x class set binding kind =
+    if nat_eq class StorageBuffer then option_map (λ r. AtRoom r 0) (bound_room m.places set binding) else
+    if nat_eq class Uniform then option_map (λ s. AtConstants s 0) (bound_slot m.places set binding) else
+    if nat_eq class Workgroup then option_map (λ s. AtRoom (Shared s) 0) (shared_slot m x) else
+    if nat_eq class Input then input_by kind else
+    if nat_eq class PushConstant then Some (AtPush 0) else
+    if nat_eq class Private then Some (AtLocal x 0) else
+    None
+
 abbrev pub variable_value : Machine → ℕ → ℕ → Option Value
 variable_value m x class =
-    if nat_eq class 12 then option_map (λ r. AtRoom r 0) (bound_room m.places (decoration m.code x 34) (decoration m.code x 33)) else
-    if nat_eq class 2 then option_map (λ s. AtConstants s 0) (bound_slot m.places (decoration m.code x 34) (decoration m.code x 33)) else
-    if nat_eq class 4 then option_map (λ s. AtRoom (Shared s) 0) (shared_slot m x) else
-    if nat_eq class 1 then input_by (decoration m.code x 11) else
-    if nat_eq class 9 then Some (AtPush 0) else
-    if nat_eq class 6 then Some (AtLocal x 0) else
-    None
+    variable_by m x class (decoration m.code x DescriptorSet) (decoration m.code x Binding) (decoration m.code x BuiltIn)
 
 -- the null of a type, where those of other types are known; types nest less deep than there are instructions
 abbrev pub null_by : (ℕ → Option Value) → Sort → Option Value
@@ -160,12 +171,12 @@ cell (Ok ws) w = slice_get ws w
 cell (Err rule) w = None
 
 abbrev pub initial_by : Machine → List ℕ → ℕ → Option ℕ
-initial_by m (t ∷ r ∷ class ∷ x ∷ []) w = if nat_eq class 6 then cell (cells_of (global m x)) w else None
+initial_by m (t ∷ r ∷ class ∷ x ∷ []) w = if nat_eq class Private then cell (cells_of (global m x)) w else None
 initial_by m os w = None
 
 abbrev pub initial_of : Machine → Option Instr → ℕ → Option ℕ
 initial_of m None w = None
-initial_of m (Some i) w = if nat_eq i.op 59 then initial_by m i.operands w else None
+initial_of m (Some i) w = if is_op OpVariable i then initial_by m i.operands w else None
 
 abbrev pub initial_memory : Machine → ℕ → ℕ → Option ℕ
 initial_memory m x w = initial_of m (definition (declared m.code) x) w

@@ -1,9 +1,11 @@
 -- The ids of an instruction, read from its operands by its layout.
-use Rattle.std.specs.Prelude.{◌≡◌, ℕ, nat_eq, nat_le, if◌then◌else◌, Bool, true, false, ◌&&◌, not, List, [], ◌∷◌, ◌++◌, length, drop, filter, Option, Some, None, find, slice_get, slice_index, option_and_then, refl}
+use Rattle.std.specs.Prelude.{◌≡◌, ℕ, nat_eq, if◌then◌else◌, Bool, true, false, ◌&&◌, not, List, [], ◌∷◌, ◌++◌, length, drop, filter, Option, Some, None, find, slice_get, slice_index, option_and_then, refl}
 use Rattle.std.specs.List.{list_any}
-use Rattle.spirv_words.specs.Operations.{Op, op_of}
-use Rattle.spirv_words.specs.Layouts.{Part, ResultType, Result, Use, Name, Literal, Text, OptionalUse, OptionalLiteral, Uses, Names, Literals, Targets, layout_of, ends_text}
-use Rattle.spirv_words.specs.Text.{Instr, instr}
+use Rattle.spirv_words.specs.Roles.{Part, ResultType, Result, Use, Name, Literal, Text, OptionalUse, OptionalLiteral, Uses, Names, Literals, Targets, Defined, Nothing, AType, ATypeOnce, AConstant, AValue, seconds}
+use Rattle.spirv_words.specs.Enumerants.{GLCompute, main_text}
+use Rattle.spirv_words.specs.Operations.{Op, OpEntryPoint, OpFunction, OpSelect, OpSwitch, row_of, layout_of, op_of}
+use Rattle.spirv_words.specs.Layouts.{ends_text}
+use Rattle.spirv_words.specs.Text.{Instr, instruction, is_op}
 
 -- the ids that an instruction defines, those that it uses, and those that it names
 pub record Ids : Type 0 where
@@ -30,12 +32,6 @@ add_none x ids = ids
 abbrev pub behind_text : List ℕ → List ℕ
 behind_text [] = []
 behind_text (word ∷ rest) = if ends_text word then rest else behind_text rest
-
--- the second word of each pair
-abbrev pub seconds : List ℕ → List ℕ
-seconds [] = []
-seconds (value ∷ []) = []
-seconds (value ∷ label ∷ rest) = label ∷ seconds rest
 
 abbrev pub ids_from : (ℕ → Ids → Ids) → (List ℕ → Ids) → List ℕ → Ids
 ids_from add further [] = no_ids
@@ -69,26 +65,21 @@ ids_of i = ids_in (parts_of (op_of i.op)) i.operands
 abbrev pub contains : List ℕ → ℕ → Bool
 contains xs x = list_any (λ y. nat_eq y x) xs
 
-abbrev pub list_eq : List ℕ → List ℕ → Bool
-list_eq [] [] = true
-list_eq (x ∷ xs) (y ∷ ys) = nat_eq x y && list_eq xs ys
-list_eq xs ys = false
-
 -- the first instruction with that result
 abbrev pub definition : List Instr → ℕ → Option Instr
 definition code x = find (λ i. contains (ids_of i).results x) code
 
 -- The function is the one that the first entry point names.
 abbrev pub entry_function : List Instr → Option ℕ
-entry_function code = option_and_then (λ i. slice_get i.operands 1) (find (λ i. nat_eq i.op 15) code)
+entry_function code = option_and_then (λ i. slice_get i.operands 1) (find (is_op OpEntryPoint) code)
 
 abbrev pub is_function : ℕ → Instr → Bool
-is_function f i = nat_eq i.op 54 && nat_eq (slice_index i.operands 1) f
+is_function f i = is_op OpFunction i && nat_eq (slice_index i.operands 1) f
 
 -- The declarations: all instructions in front of the function (section 2.4, Logical Layout of a Module), or of the first one where no
 -- entry point names one.
 abbrev pub is_entry : Option ℕ → Instr → Bool
-is_entry None i = nat_eq i.op 54
+is_entry None i = is_op OpFunction i
 is_entry (Some f) i = is_function f i
 
 abbrev pub in_front_of : (Instr → Bool) → List Instr → List Instr
@@ -98,32 +89,53 @@ in_front_of test (i ∷ rest) = if test i then [] else i ∷ in_front_of test re
 abbrev pub declared : List Instr → List Instr
 declared code = in_front_of (is_entry (entry_function code)) code
 
+-- what an instruction defines
+abbrev pub defined_by : Option Op → Defined
+defined_by None = Nothing
+defined_by (Some op) = (row_of op).defines
+
+abbrev pub defines : Instr → Defined
+defines i = defined_by (op_of i.op)
+
+abbrev pub is_a_type : Defined → Bool
+is_a_type AType = true
+is_a_type ATypeOnce = true
+is_a_type d = false
+
+abbrev pub is_a_constant : Defined → Bool
+is_a_constant AConstant = true
+is_a_constant d = false
+
 -- the code without the types that are defined behind the declarations, which define nothing
 abbrev pub is_type_instr : Instr → Bool
-is_type_instr i = nat_le 19 i.op && nat_le i.op 33
+is_type_instr i = is_a_type (defines i)
 
 abbrev pub without_late_types : List Instr → List Instr
 without_late_types code = declared code ++ filter (λ i. not (is_type_instr i)) (drop (length (declared code)) code)
 
--- the type of an instruction's result
-abbrev pub type_in : List Part → List ℕ → Option ℕ
-type_in (ResultType ∷ parts) (t ∷ rest) = Some t
-type_in parts words = None
+-- the type of an instruction's result, where that is a constant or a value; a function's is none
+abbrev pub type_in : Defined → List ℕ → Option ℕ
+type_in AConstant (t ∷ rest) = Some t
+type_in AValue (t ∷ rest) = Some t
+type_in d words = None
 
 abbrev pub type_of_instr : Option Instr → Option ℕ
 type_of_instr None = None
-type_of_instr (Some i) = type_in (parts_of (op_of i.op)) i.operands
+type_of_instr (Some i) = type_in (defines i) i.operands
 
 -- the type of an id
 abbrev pub type_of : List Instr → ℕ → Option ℕ
 type_of code x = type_of_instr (definition code x)
 
 -- Examples: a choice between two words; a switch with two cases; an entry point with one variable.
-pub select_ids : ids_of (instr 169 (2 ∷ 9 ∷ 5 ∷ 6 ∷ 7 ∷ [])) ≡ record { results = 9 ∷ []; uses = 2 ∷ 5 ∷ 6 ∷ 7 ∷ []; names = [] }
+pub select_ids :
+    ids_of (instruction OpSelect (2 ∷ 9 ∷ 5 ∷ 6 ∷ 7 ∷ [])) ≡ record { results = 9 ∷ []; uses = 2 ∷ 5 ∷ 6 ∷ 7 ∷ []; names = [] }
 select_ids = refl
 
-pub switch_ids : ids_of (instr 251 (9 ∷ 20 ∷ 0 ∷ 21 ∷ 7 ∷ 22 ∷ [])) ≡ record { results = []; uses = 9 ∷ []; names = 20 ∷ 21 ∷ 22 ∷ [] }
+pub switch_ids :
+    ids_of (instruction OpSwitch (9 ∷ 20 ∷ 0 ∷ 21 ∷ 7 ∷ 22 ∷ [])) ≡ record { results = []; uses = 9 ∷ []; names = 20 ∷ 21 ∷ 22 ∷ [] }
 switch_ids = refl
 
-pub entry_ids : ids_of (instr 15 (5 ∷ 1 ∷ 0x6E69616D ∷ 0 ∷ 8 ∷ [])) ≡ record { results = []; uses = []; names = 1 ∷ 8 ∷ [] }
+pub entry_ids :
+    ids_of (instruction OpEntryPoint (GLCompute ∷ 1 ∷ main_text ++ 8 ∷ [])) ≡ record { results = []; uses = []; names = 1 ∷ 8 ∷ [] }
 entry_ids = refl

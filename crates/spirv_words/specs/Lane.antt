@@ -1,6 +1,7 @@
 -- The lane of a module: what it does, instruction by instruction (SPIR-V specification, unified1, section 3.52). Its events are those of
 -- the base crate, and where an instruction breaks rules the lane is wrong at the instruction's number, counted from 0.
 use Rattle.std.specs.Prelude.{ℕ, ◌+◌, nat_eq, if◌then◌else◌, Bool, true, false, ◌&&◌, List, [], ◌∷◌, drop, Option, Some, None, Ok, Err, slice_get, slice_index, option_map, option_and_then}
+use Rattle.std.specs.Cmp.Lexicographic.{pointwise}
 use Rattle.word_base.specs.Lanes.{Turn, Silent, Asks, Ends, Wrong, Standing, started}
 use Rattle.word_base.specs.declared.event.Event.{Event}
 use Rattle.word_base.specs.declared.event.Event.TheVariants.{Load, Store, Atomic, Fence, Barrier}
@@ -9,26 +10,26 @@ use Rattle.word_base.specs.declared.event.Act.TheVariants.{CompareExchange}
 use Rattle.word_base.specs.declared.event.Scope.{Scope}
 use Rattle.word_base.specs.declared.event.Classes.{Classes}
 use Rattle.word_base.specs.Settings.{Setting}
-use Rattle.spirv_words.specs.Operations.{Op, op_of, OpLabel, OpFunctionEnd, OpReturn, OpBranch, OpBranchConditional, OpSwitch, OpSelectionMerge, OpLoopMerge, OpVariable, OpLoad, OpStore, OpAccessChain, OpArrayLength, OpCompositeConstruct, OpCompositeExtract, OpExtInst, OpSelect, OpControlBarrier, OpMemoryBarrier, OpAtomicCompareExchange}
-use Rattle.spirv_words.specs.Text.{Instr, Module}
-use Rattle.spirv_words.specs.Ids.{list_eq, definition, without_late_types}
+use Rattle.word_base.specs.declared.event.Room.{Room}
+use Rattle.spirv_words.specs.StorageClass.{Input, Uniform, Function, PushConstant}
+use Rattle.spirv_words.specs.Enumerants.{WorkgroupScope, glsl_text}
+use Rattle.spirv_words.specs.Operations.{Op, op_of, OpExtInstImport, OpLabel, OpFunctionEnd, OpReturn, OpBranch, OpBranchConditional, OpSwitch, OpSelectionMerge, OpLoopMerge, OpVariable, OpLoad, OpStore, OpAccessChain, OpArrayLength, OpCompositeConstruct, OpCompositeExtract, OpExtInst, OpSelect, OpControlBarrier, OpMemoryBarrier, OpAtomicCompareExchange}
+use Rattle.spirv_words.specs.Text.{Instr, Module, is_op}
+use Rattle.spirv_words.specs.Ids.{definition, without_late_types}
 pub use Rattle.spirv_words.specs.Ids.{entry_function, is_function}
 use Rattle.spirv_words.specs.Sorts.{is_words, sort_of, sort_of_value}
 use Rattle.spirv_words.specs.Operands.{is_sorted, is_defined}
-use Rattle.spirv_words.specs.Values.{Value, Word, Truth, AtLocal, AtRoom, AtConstants, AtPush, AtInput, Got, of_parts, of_words, both, and_then, or_rule, word_of, truth_of, words_of_all, values_of_all, extracted, cells_of}
+use Rattle.spirv_words.specs.Values.{Value, Word, Truth, AtLocal, AtRoom, AtConstants, AtPush, AtInput, Got, of_parts, both, and_then, or_rule, word_of, truth_of, words_of_all, values_of_all, extracted, words_in, cells_of}
 use Rattle.spirv_words.specs.Meanings.{Class, Unary, Binary, Ternary, Quaternary, OfTruth, OfTruths, Other, class_of, extended}
 use Rattle.spirv_words.specs.Globals.{Places, Machine, global, initial_memory, push_word, built_in}
-use Rattle.spirv_words.specs.Memory.{InRoom, chained, pointer_of, in_room, takes_stores, scope_of, classes_of, act_of}
+pub use Rattle.spirv_words.specs.Memory.{with_at}
+use Rattle.spirv_words.specs.Memory.{InRoom, chained, value_at, with_words, pointer_of, in_room, takes_stores, scope_of, classes_of, act_of}
 
 -- A state: the number of the instruction that comes next, the values of ids, and the words of Function and Private variables.
 pub record State : Type 0 where
   pub place : ℕ
   pub values : ℕ → Option Value
   pub memory : ℕ → ℕ → Option ℕ
-
--- a map with one entry changed
-abbrev pub with_at : {X : Type 0} → (ℕ → X) → ℕ → X → ℕ → X
-with_at f k x i = if nat_eq i k then x else f i
 
 abbrev pub goes_to : State → ℕ → State
 goes_to s place = record { place = place; values = s.values; memory = s.memory }
@@ -70,7 +71,7 @@ pointer s x = pointer_of (s.values x)
 
 -- A branch goes behind the first label with that id.
 abbrev pub is_label : ℕ → Instr → Bool
-is_label l i = nat_eq i.op 248 && nat_eq (slice_index i.operands 0) l
+is_label l i = is_op OpLabel i && nat_eq (slice_index i.operands 0) l
 
 abbrev pub first_from : (Instr → Bool) → List Instr → ℕ → Option ℕ
 first_from test [] place = None
@@ -87,23 +88,32 @@ abbrev pub target : ℕ → ℕ → List ℕ → ℕ
 target w other (value ∷ label ∷ rest) = if nat_eq value w then label else target w other rest
 target w other rest = other
 
--- loads, of a word or of an input's vector
-abbrev pub input_value : Bool → List ℕ → ℕ → Got Value
-input_value of_word numbers w = if of_word then and_then (or_rule 7 (slice_get numbers w)) (λ x. Ok (Word x)) else Ok (of_words numbers)
+abbrev pub only_where : Bool → ℕ → Got Bool
+only_where test rule = if test then Ok test else Err rule
 
+-- Loads of a type: of the lane's own memory, of constant buffers (0 past their words), push constants and inputs any value, of a room one
+-- word.
 abbrev pub loads : Machine → State → ℕ → ℕ → Value → Turn State
-loads m s t r (AtLocal v w) = gives s r (and_then (or_rule 2 (s.memory v w)) (λ x. Ok (Word x)))
-loads m s t r (AtRoom room w) = got s (in_room m (AtRoom room w)) (λ p. asks s r (Load p.room p.word))
-loads m s t r (AtConstants slot w) = sets s r (Word (slice_index (m.setting.constants slot) w))
-loads m s t r (AtPush w) = sets s r (Word (push_word m w))
-loads m s t r (AtInput kind w) = gives s r (input_value (is_words (sort_of m.code t)) (built_in m.setting.ids kind) w)
+loads m s t r (AtLocal v w) = gives s r (value_at m Function (λ k. or_rule 2 (s.memory v k)) t w)
+loads m s t r (AtConstants slot w) = gives s r (value_at m Uniform (λ k. Ok (slice_index (m.setting.constants slot) k)) t w)
+loads m s t r (AtPush w) = gives s r (value_at m PushConstant (λ k. Ok (push_word m k)) t w)
+loads m s t r (AtInput kind w) = gives s r (value_at m Input (λ k. or_rule 7 (slice_get (built_in m.setting.ids kind) k)) t w)
+loads m s t r (AtRoom room w) =
+    got s (both (only_where (is_words (sort_of m.code t)) 1) (in_room m (AtRoom room w)))
+    (λ q. asks s r (Load q.1.room q.1.word))
 loads m s t r v = Wrong s.place 1
 
-abbrev pub stores : Machine → State → Value → ℕ → Turn State
-stores m s (AtLocal v w) x = Silent (with_memory s (with_at s.memory v (with_at (s.memory v) w (Some x))))
+-- Stores, of any value in the lane's own memory, which holds its words in order, and of one word in a room.
+abbrev pub written : Machine → Room → ℕ → Got InRoom
+written m room w = and_then (in_room m (AtRoom room w)) (λ p. and_then (takes_stores p.room) (λ _. Ok p))
+
+abbrev pub stores : Machine → State → Value → Value → Turn State
+stores m s (AtLocal v w) x =
+    got s (words_in x) (λ xs. Silent (with_memory s (with_at s.memory v (with_words (s.memory v) w xs))))
 stores m s (AtRoom room w) x =
-    got s (and_then (in_room m (AtRoom room w)) (λ p. and_then (takes_stores p.room) (λ _. Ok p))) (λ p. Asks (Store p.room p.word x) (λ _. goes_to s (s.place + 1)))
-stores m s v x = Wrong s.place 8
+    got s (both (word_of (Some x)) (written m room w))
+    (λ q. Asks (Store q.1.room q.1.word q.0) (λ _. goes_to s (s.place + 1)))
+stores m s v x = Wrong s.place 1
 
 -- a Function variable begins with the words of its initializer, or with none
 abbrev pub initial_words : State → List ℕ → Got (List ℕ)
@@ -114,18 +124,15 @@ abbrev pub begins : State → ℕ → List ℕ → Turn State
 begins s r words =
     Silent (record { place = s.place + 1; values = with_at s.values r (Some (AtLocal r 0)); memory = with_at s.memory r (slice_get words) })
 
-abbrev pub only_where : Bool → ℕ → Got Bool
-only_where test rule = if test then Ok test else Err rule
-
 -- the length of a pointer's room, in words
 abbrev pub measured : Machine → Value → Got Value
 measured m (AtRoom room w) = Ok (Word (m.setting.extent room))
-measured m v = Err 8
+measured m v = Err 1
 
 -- the extended instructions are those of an import of `GLSL.std.450`
 abbrev pub is_glsl_import : ℕ → Option Instr → Bool
 is_glsl_import set None = false
-is_glsl_import set (Some i) = nat_eq i.op 11 && list_eq i.operands (set ∷ 0x4C534C47 ∷ 0x6474732E ∷ 0x3035342E ∷ 0 ∷ [])
+is_glsl_import set (Some i) = is_op OpExtInstImport i && pointwise nat_eq i.operands (set ∷ glsl_text)
 
 abbrev pub is_glsl : List Instr → ℕ → Bool
 is_glsl code set = is_glsl_import set (definition code set)
@@ -171,10 +178,13 @@ act m s OpLoopMerge os = goes_on s
 act m s OpBranch (l ∷ []) = branches m s l
 act m s OpBranchConditional (c ∷ l ∷ k ∷ []) = got s (truth s c) (λ b. branches m s (if b then l else k))
 act m s OpSwitch (x ∷ other ∷ cases) = got s (word s x) (λ w. branches m s (target w other cases))
-act m s OpVariable (t ∷ r ∷ class ∷ rest) = got s (both (initial_words s rest) (only_where (nat_eq class 7) 8)) (λ p. begins s r p.0)
+act m s OpVariable (t ∷ r ∷ class ∷ rest) =
+    got s (both (initial_words s rest) (only_where (nat_eq class Function) 8)) (λ p. begins s r p.0)
 act m s OpLoad (t ∷ r ∷ p ∷ rest) = got s (pointer s p) (loads m s t r)
-act m s OpStore (p ∷ x ∷ rest) = got s (both (pointer s p) (word s x)) (λ q. stores m s q.0 q.1)
-act m s OpAccessChain (t ∷ r ∷ p ∷ xs) = gives s r (and_then (both (pointer s p) (words_of_all s.values xs)) (λ q. chained m (sort_of_value m.code p) q.0 q.1))
+act m s OpStore (p ∷ x ∷ rest) = got s (both (pointer s p) (or_rule 2 (s.values x))) (λ q. stores m s q.0 q.1)
+act m s OpAccessChain (t ∷ r ∷ p ∷ xs) =
+    gives s r
+    (and_then (both (pointer s p) (words_of_all s.values xs)) (λ q. chained m (sort_of_value m.code p) q.0 q.1))
 act m s OpArrayLength (t ∷ r ∷ p ∷ k ∷ []) = gives s r (and_then (pointer s p) (measured m))
 act m s OpCompositeConstruct (t ∷ r ∷ xs) = gives s r (and_then (values_of_all s.values xs) (λ vs. Ok (of_parts vs)))
 act m s OpCompositeExtract (t ∷ r ∷ c ∷ ks) = gives s r (and_then (or_rule 2 (s.values c)) (extracted ks))
@@ -182,7 +192,8 @@ act m s OpExtInst (t ∷ r ∷ set ∷ n ∷ xs) = gives s r (and_then (words_of
 act m s OpSelect (t ∷ r ∷ c ∷ a ∷ b ∷ []) =
     gives s r (and_then (both (truth s c) (both (word s a) (word s b))) (λ p. Ok (Word (if p.0 then p.1.0 else p.1.1))))
 act m s OpControlBarrier (e ∷ scope ∷ semantics ∷ []) =
-    barrier s (λ z c. Barrier z c) (and_then (both (and_then (word s e) (λ n. only_where (nat_eq n 2) 8)) (named s scope semantics)) (λ q. Ok q.1))
+    barrier s (λ z c. Barrier z c)
+    (and_then (both (and_then (word s e) (λ n. only_where (nat_eq n WorkgroupScope) 8)) (named s scope semantics)) (λ q. Ok q.1))
 act m s OpMemoryBarrier (scope ∷ semantics ∷ []) = barrier s (λ z c. Fence z c) (named s scope semantics)
 act m s OpAtomicCompareExchange os = exchanges m s os
 act m s op os = act_by m s (act_of op) os
@@ -191,11 +202,13 @@ act m s op os = act_by m s (act_of op) os
 abbrev pub act_in : Machine → State → Class → List ℕ → Turn State
 act_in m s (Unary f) (t ∷ r ∷ x ∷ []) = gives s r (and_then (word s x) f)
 act_in m s (Binary f) (t ∷ r ∷ x ∷ y ∷ []) = gives s r (and_then (both (word s x) (word s y)) (λ p. f p.0 p.1))
-act_in m s (Ternary f) (t ∷ r ∷ x ∷ y ∷ z ∷ []) = gives s r (and_then (both (word s x) (both (word s y) (word s z))) (λ p. f p.0 p.1.0 p.1.1))
+act_in m s (Ternary f) (t ∷ r ∷ x ∷ y ∷ z ∷ []) =
+    gives s r (and_then (both (word s x) (both (word s y) (word s z))) (λ p. f p.0 p.1.0 p.1.1))
 act_in m s (Quaternary f) (t ∷ r ∷ x ∷ y ∷ z ∷ w ∷ []) =
     gives s r (and_then (both (both (word s x) (word s y)) (both (word s z) (word s w))) (λ p. f p.0.0 p.0.1 p.1.0 p.1.1))
 act_in m s (OfTruth f) (t ∷ r ∷ x ∷ []) = gives s r (and_then (truth s x) (λ a. Ok (Truth (f a))))
-act_in m s (OfTruths f) (t ∷ r ∷ x ∷ y ∷ []) = gives s r (and_then (both (truth s x) (truth s y)) (λ p. Ok (Truth (f p.0 p.1))))
+act_in m s (OfTruths f) (t ∷ r ∷ x ∷ y ∷ []) =
+    gives s r (and_then (both (truth s x) (truth s y)) (λ p. Ok (Truth (f p.0 p.1))))
 act_in m s (Other op) os = act m s op os
 act_in m s class os = Wrong s.place 8
 
@@ -224,18 +237,21 @@ step m s = act_at m s (slice_get m.code s.place)
 abbrev pub behind_label : List Instr → ℕ → Option ℕ
 behind_label [] place = None
 behind_label (i ∷ is) place =
-    if nat_eq i.op 248 then Some (place + 1) else if nat_eq i.op 56 then None else behind_label is (place + 1)
+    if is_op OpLabel i then Some (place + 1) else if is_op OpFunctionEnd i then None else behind_label is (place + 1)
 
 abbrev pub start_place : List Instr → Option ℕ
 start_place code =
-    option_and_then (λ f. option_and_then (λ place. behind_label (drop place code) place) (first_from (is_function f) code 0)) (entry_function code)
+    option_and_then
+    (λ f. option_and_then (λ place. behind_label (drop place code) place) (first_from (is_function f) code 0))
+    (entry_function code)
 
 abbrev pub machine : Module → Places → Setting → Machine
 machine m places setting = record { code = m.code; places = places; setting = setting }
 
 abbrev pub start : Module → Places → Setting → Standing State
 start m places setting =
-    let k = machine m places setting in option_map (λ place. record { place = place; values = global k; memory = initial_memory k }) (start_place m.code)
+    let k = machine m places setting in
+    option_map (λ place. record { place = place; values = global k; memory = initial_memory k }) (start_place m.code)
 
 -- the lane; where there is no start it is wrong at place 0 by rule 3
 abbrev pub lane : Module → Places → Setting → Standing State → Turn (Standing State)

@@ -1,3 +1,8 @@
+pub mod StorageClass
+pub mod Decoration
+pub mod BuiltIn
+pub mod Enumerants
+pub mod Roles
 pub mod Operations
 pub mod Layouts
 pub mod Text
@@ -21,3 +26,8 @@ pub mod Form
 pub mod Broken
 pub mod FormExamples
 pub mod VariableExamples
+pub mod Constants
+pub mod ValueExamples
+pub mod MemoryExamples
+pub mod SortExamples
+pub mod TextExamples

@@ -1,50 +1,28 @@
--- What the instructions on words and truths compute, modulo 2 ^ 32 (SPIR-V specification, unified1, sections 3.52.13 to 3.52.15, and
+-- What the instructions on words and truths compute, modulo 2 ^ 32, in the arithmetic words of the base crate (SPIR-V specification, unified1, sections 3.52.13 to 3.52.15, and
 -- the extended instructions GLSL.std.450).
-use Rattle.std.specs.Prelude.{◌≡◌, ℕ, ◌+◌, ◌-◌, ◌*◌, ◌/◌, ◌%◌, ◌^◌, nat_eq, nat_lt, nat_le, if◌then◌else◌, Bool, ◌&&◌, ◌||◌, not, [], ◌∷◌, Ok, Err, bit_and, bit_or, bit_xor, count_ones, refl}
-use Rattle.std.specs.Int.{w32, reverse_bits, leading_zeros, trailing_zeros}
+use Rattle.std.specs.Prelude.{ℕ, ◌+◌, ◌-◌, ◌*◌, ◌/◌, ◌%◌, ◌^◌, nat_eq, nat_lt, nat_le, if◌then◌else◌, Bool, ◌&&◌, ◌||◌, not, [], ◌∷◌, Ok, Err}
+use Rattle.word_base.specs.Bits.{ones_among, reversed, zeros_above, zeros_below}
+use Rattle.word_base.specs.Alu.{all_ones, complement, difference, lifted, widened, shifted_with_sign, and_of, or_of, xor_of, with_sign, with_bits}
+use Rattle.spirv_words.specs.Enumerants.{FindILsb, FindSMsb, FindUMsb}
 use Rattle.spirv_words.specs.Operations.{Op, OpIAdd, OpISub, OpIMul, OpUDiv, OpUMod, OpIAddCarry, OpISubBorrow, OpUMulExtended, OpSMulExtended, OpLogicalOr, OpLogicalAnd, OpLogicalNot, OpIEqual, OpINotEqual, OpUGreaterThanEqual, OpSGreaterThanEqual, OpULessThan, OpSLessThan, OpShiftRightLogical, OpShiftRightArithmetic, OpShiftLeftLogical, OpBitwiseOr, OpBitwiseXor, OpBitwiseAnd, OpNot, OpBitFieldInsert, OpBitFieldSExtract, OpBitFieldUExtract, OpBitReverse, OpBitCount}
 use Rattle.spirv_words.specs.Values.{Value, Word, Truth, Got, of_words}
 
-abbrev pub difference : ℕ → ℕ → ℕ
-difference x y = (x + (2 ^ 32 - y)) % 2 ^ 32
-
--- a word without sign in the order of the signed values: its highest bit turned
-abbrev pub lifted : ℕ → ℕ
-lifted x = (x + 2 ^ 31) % 2 ^ 32
-
-abbrev pub complement : ℕ → ℕ
-complement x = 2 ^ 32 - 1 - x
-
--- the word as a signed number, in two's complement of 64 bits
-abbrev pub widened : ℕ → ℕ
-widened x = if nat_lt x (2 ^ 31) then x else x + (2 ^ 64 - 2 ^ 32)
-
 abbrev pub low_and_high : ℕ → Value
 low_and_high x = of_words (x % 2 ^ 32 ∷ x / 2 ^ 32 % 2 ^ 32 ∷ [])
-
-abbrev pub shifted_with_sign : ℕ → ℕ → ℕ
-shifted_with_sign x n = if nat_lt x (2 ^ 31) then x / 2 ^ n else complement (complement x / 2 ^ n)
 
 -- so many bits from that one on, with zeros or with the highest of them above
 abbrev pub bits_from : ℕ → ℕ → ℕ → ℕ
 bits_from x from count = x / 2 ^ from % 2 ^ count
 
-abbrev pub with_sign : ℕ → ℕ → ℕ
-with_sign x count = if nat_lt x (2 ^ (count - 1)) then x else x + (2 ^ 32 - 2 ^ count)
-
 abbrev pub signed_bits_from : ℕ → ℕ → ℕ → ℕ
-signed_bits_from x from count = if nat_eq count 0 then 0 else with_sign (bits_from x from count) count
-
-abbrev pub with_bits : ℕ → ℕ → ℕ → ℕ → ℕ
-with_bits x insert from count =
-    x % 2 ^ from + insert % 2 ^ count * 2 ^ from + x / 2 ^ (from + count) * 2 ^ (from + count)
+signed_bits_from x from count = if nat_eq count 0 then 0 else with_sign count (bits_from x from count)
 
 -- the number of the lowest or highest bit that is 1, or 0xFFFFFFFF
 abbrev pub lowest_one : ℕ → ℕ
-lowest_one x = if nat_eq x 0 then 2 ^ 32 - 1 else trailing_zeros w32 x
+lowest_one x = if nat_eq x 0 then all_ones else zeros_below 32 x
 
 abbrev pub highest_one : ℕ → ℕ
-highest_one x = if nat_eq x 0 then 2 ^ 32 - 1 else 31 - leading_zeros w32 x
+highest_one x = if nat_eq x 0 then all_ones else 31 - zeros_above 32 x
 
 -- a negative word's highest bit that is 0, any other's highest bit that is 1
 abbrev pub highest_by_sign : ℕ → ℕ
@@ -101,40 +79,21 @@ class_of OpSLessThan = compares (λ x y. nat_lt (lifted x) (lifted y))
 class_of OpShiftRightLogical = Binary (λ x n. unless 4 (nat_lt n 32) (x / 2 ^ n))
 class_of OpShiftRightArithmetic = Binary (λ x n. unless 4 (nat_lt n 32) (shifted_with_sign x n))
 class_of OpShiftLeftLogical = Binary (λ x n. unless 4 (nat_lt n 32) (x * 2 ^ n % 2 ^ 32))
-class_of OpBitwiseOr = on_words bit_or
-class_of OpBitwiseXor = on_words bit_xor
-class_of OpBitwiseAnd = on_words bit_and
+class_of OpBitwiseOr = on_words or_of
+class_of OpBitwiseXor = on_words xor_of
+class_of OpBitwiseAnd = on_words and_of
 class_of OpNot = on_word complement
-class_of OpBitReverse = on_word (reverse_bits w32)
-class_of OpBitCount = on_word count_ones
+class_of OpBitReverse = on_word (reversed 32)
+class_of OpBitCount = on_word (ones_among 32)
 class_of OpBitFieldUExtract = Ternary (λ x from count. unless 6 (nat_le (from + count) 32) (bits_from x from count))
 class_of OpBitFieldSExtract = Ternary (λ x from count. unless 6 (nat_le (from + count) 32) (signed_bits_from x from count))
-class_of OpBitFieldInsert = Quaternary (λ x insert from count. unless 6 (nat_le (from + count) 32) (with_bits x insert from count))
+class_of OpBitFieldInsert = Quaternary (λ x insert from count. unless 6 (nat_le (from + count) 32) (with_bits from (from + count) insert x))
 class_of op = Other op
 
 -- FindILsb, FindSMsb and FindUMsb of GLSL.std.450, by their numbers
 abbrev pub extended : ℕ → ℕ → Got Value
 extended n x =
-    if nat_eq n 73 then Ok (Word (lowest_one x)) else
-    if nat_eq n 74 then Ok (Word (highest_by_sign x)) else
-    if nat_eq n 75 then Ok (Word (highest_one x)) else
+    if nat_eq n FindILsb then Ok (Word (lowest_one x)) else
+    if nat_eq n FindSMsb then Ok (Word (highest_by_sign x)) else
+    if nat_eq n FindUMsb then Ok (Word (highest_one x)) else
     Err 8
-
--- Examples: -16 shifted by 2; the signed field of four bits 1010; a field set in a word; a borrow; (-1) * 2.
-pub shift_of_negative : shifted_with_sign 0xFFFFFFF0 2 ≡ 0xFFFFFFFC
-shift_of_negative = refl
-
-pub signed_field : signed_bits_from 0xA0 4 4 ≡ 0xFFFFFFFA
-signed_field = refl
-
-pub field_set : with_bits 0x12345678 0xAB 8 8 ≡ 0x1234AB78
-field_set = refl
-
-pub field_of_none : with_bits 0x12345678 0xAB 32 0 ≡ 0x12345678
-field_of_none = refl
-
-pub borrow : difference 3 5 ≡ 0xFFFFFFFE
-borrow = refl
-
-pub signed_product : low_and_high (widened 0xFFFFFFFF * widened 2 % 2 ^ 64) ≡ of_words (0xFFFFFFFE ∷ 0xFFFFFFFF ∷ [])
-signed_product = refl

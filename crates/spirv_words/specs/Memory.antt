@@ -1,5 +1,6 @@
 -- Access chains, loads, stores and atomics of a lane (SPIR-V specification, unified1, sections 3.52.8 and 3.52.18).
 use Rattle.std.specs.Prelude.{ℕ, zero, suc, ◌+◌, ◌-◌, ◌*◌, ◌/◌, ◌%◌, nat_eq, nat_lt, if◌then◌else◌, Bool, true, false, ◌||◌, List, [], ◌∷◌, length, map, take, Option, Some, None, Ok, Err, slice_get}
+use Rattle.std.specs.List.{range_with_len}
 use Rattle.word_base.specs.declared.event.Act.{Act}
 use Rattle.word_base.specs.declared.event.Act.TheVariants.{Add, Sub, And, Or, Xor, SMax, SMin, UMax, UMin, Exchange}
 use Rattle.word_base.specs.declared.event.Scope.{Scope}
@@ -7,11 +8,18 @@ use Rattle.word_base.specs.declared.event.Scope.TheVariants.{Device, Group}
 use Rattle.word_base.specs.declared.event.Classes.{Classes}
 use Rattle.word_base.specs.declared.event.Room.{Room}
 use Rattle.word_base.specs.declared.event.Room.TheVariants.{Resource}
+use Rattle.spirv_words.specs.StorageClass as storage_class
+use Rattle.spirv_words.specs.Decoration.{ArrayStride, Offset}
+use Rattle.spirv_words.specs.Enumerants.{DeviceScope, WorkgroupScope, AcquireRelease, UniformMemory, WorkgroupMemory}
 use Rattle.spirv_words.specs.Operations.{Op, OpAtomicExchange, OpAtomicIAdd, OpAtomicISub, OpAtomicSMin, OpAtomicUMin, OpAtomicSMax, OpAtomicUMax, OpAtomicAnd, OpAtomicOr, OpAtomicXor}
 use Rattle.spirv_words.specs.Text.{Instr}
-use Rattle.spirv_words.specs.Sorts.{Sort, Words, Truths, Vector, Array, RuntimeArray, Struct, Pointer, sort_of}
-use Rattle.spirv_words.specs.Values.{Value, Word, Truth, NoParts, Part, AtLocal, AtRoom, AtConstants, AtPush, AtInput, Got, both, and_then}
+use Rattle.spirv_words.specs.Sorts.{Sort, Words, Truths, Vector, Array, RuntimeArray, Struct, Pointer, sort_of, parts_of_sort}
+use Rattle.spirv_words.specs.Values.{Value, Word, Truth, NoParts, Part, AtLocal, AtRoom, AtConstants, AtPush, AtInput, Got, both, and_then, all_of, of_parts}
 use Rattle.spirv_words.specs.Globals.{Machine, decoration, member_decoration}
+
+-- a map with one entry changed
+abbrev pub with_at : {X : Type 0} → (ℕ → X) → ℕ → X → ℕ → X
+with_at f k x i = if nat_eq i k then x else f i
 
 -- a pointer's word, and the pointer to another word beside it
 abbrev pub word_at : Value → ℕ
@@ -63,21 +71,22 @@ size_within code (suc depth) t = size_by (size_within code depth) (sort_of code 
 abbrev pub size_of : List Instr → ℕ → Got ℕ
 size_of code t = size_by (size_within code (length code)) (sort_of code t)
 
--- Of the variables with decorated layouts (Uniform 2, PushConstant 9, StorageBuffer 12) the decorations ArrayStride 6 and Offset 35
--- say where a word lies, in bytes; in the others parts lie side by side. Layouts in parts of words break rule 8.
+-- Of the variables with decorated layouts (Uniform, PushConstant, StorageBuffer) the decorations ArrayStride and Offset say where a word
+-- lies, in bytes; in the others parts lie side by side. Layouts in parts of words break rule 8.
 abbrev pub has_layout : ℕ → Bool
-has_layout class = nat_eq class 12 || (nat_eq class 2 || nat_eq class 9)
+has_layout class =
+    nat_eq class storage_class.StorageBuffer || (nat_eq class storage_class.Uniform || nat_eq class storage_class.PushConstant)
 
 abbrev pub whole_words : Option ℕ → Got ℕ
 whole_words None = Err 8
 whole_words (Some bytes) = if nat_eq (bytes % 4) 0 then Ok (bytes / 4) else Err 8
 
 abbrev pub stride : Machine → ℕ → ℕ → ℕ → Got ℕ
-stride m class t element = if has_layout class then whole_words (decoration m.code t 6) else size_of m.code element
+stride m class t element = if has_layout class then whole_words (decoration m.code t ArrayStride) else size_of m.code element
 
 abbrev pub member_start : Machine → ℕ → ℕ → List ℕ → ℕ → Got ℕ
 member_start m class t members k =
-    if has_layout class then whole_words (member_decoration m.code t k 35) else total (map (size_of m.code) (take k members))
+    if has_layout class then whole_words (member_decoration m.code t k Offset) else total (map (size_of m.code) (take k members))
 
 -- The word at which a chain of indices arrives, from a word in a type. Each index is tested, and the lowest broken rule counts; behind the
 -- end of a struct there is no type to go on with.
@@ -91,11 +100,11 @@ has_element (Some limit) start size k = nat_lt k ((limit - start) / size)
 abbrev pub element_at : Option ℕ → ℕ → Got ℕ → Got ℕ → Got ℕ
 element_at limit k start size = and_then (both start size) (λ p. where_inside (has_element limit p.0 p.1 k) (Ok (p.0 + k * p.1)))
 
-abbrev pub member_at : (ℕ → Got ℕ → Got ℕ) → Got ℕ → Got ℕ → Option ℕ → Got ℕ
-member_at further start offset None = added start (Err 7)
+abbrev pub member_at : {X : Type 0} → (ℕ → Got ℕ → Got X) → Got ℕ → Got ℕ → Option ℕ → Got X
+member_at further start offset None = and_then (added start (Err 7)) (λ w. Err 7)
 member_at further start offset (Some type) = further type (added start offset)
 
-abbrev pub part_at : Machine → ℕ → Option ℕ → (ℕ → Got ℕ → Got ℕ) → Sort → ℕ → ℕ → Got ℕ → Got ℕ
+abbrev pub part_at : {X : Type 0} → Machine → ℕ → Option ℕ → (ℕ → Got ℕ → Got X) → Sort → ℕ → ℕ → Got ℕ → Got X
 part_at m class limit further (Struct members) t k start = member_at further start (member_start m class t members k) (slice_get members k)
 part_at m class limit further (Array element count) t k start =
     further element (added start (where_inside (nat_lt k count) (times k (stride m class t element))))
@@ -111,6 +120,32 @@ part_by m class limit (k ∷ ks) t start = part_at m class limit (part_by m clas
 abbrev pub chained : Machine → Sort → Value → List ℕ → Got Value
 chained m (Pointer class pointee) v ks = and_then (part_by m class (room_length m v) ks pointee (Ok (word_at v))) (λ w. Ok (at_word v w))
 chained m s v ks = Err 1
+
+-- The value of a type at a word, where what each word holds is told: of a word or a truth what is held there, of a composite the values of
+-- its parts, each where an access chain finds it. A truth is held as a word that is not 0.
+abbrev pub numbers_below : ℕ → List ℕ
+numbers_below n = range_with_len 0 n
+
+abbrev pub held : (ℕ → Got ℕ) → (ℕ → Value) → Got ℕ → Got Value
+held words make at = and_then at (λ w. and_then (words w) (λ x. Ok (make x)))
+
+abbrev pub value_by : Machine → ℕ → (ℕ → Got ℕ) → (ℕ → Got ℕ → Got Value) → Sort → ℕ → Got ℕ → Got Value
+value_by m class words further Words t at = held words (λ x. Word x) at
+value_by m class words further Truths t at = held words (λ x. Truth (nat_lt 0 x)) at
+value_by m class words further s t at =
+    and_then (all_of (map (λ k. part_at m class None further s t k at) (numbers_below (length (parts_of_sort s))))) (λ vs. Ok (of_parts vs))
+
+abbrev pub value_within : Machine → ℕ → (ℕ → Got ℕ) → ℕ → ℕ → Got ℕ → Got Value
+value_within m class words zero t at = Err 1
+value_within m class words (suc depth) t at = value_by m class words (value_within m class words depth) (sort_of m.code t) t at
+
+abbrev pub value_at : Machine → ℕ → (ℕ → Got ℕ) → ℕ → ℕ → Got Value
+value_at m class words t w = value_by m class words (value_within m class words (length m.code)) (sort_of m.code t) t (Ok w)
+
+-- cells of memory from one on with these words in order
+abbrev pub with_words : (ℕ → Option ℕ) → ℕ → List ℕ → ℕ → Option ℕ
+with_words cells w [] = cells
+with_words cells w (x ∷ xs) = with_words (with_at cells w (Some x)) (w + 1) xs
 
 -- the value of an id as a pointer
 abbrev pub pointer_of : Option Value → Got Value
@@ -128,16 +163,16 @@ pub record InRoom : Type 0 where
 
 abbrev pub in_room : Machine → Value → Got InRoom
 in_room m (AtRoom room w) = if nat_lt w (m.setting.extent room) then Ok (record { room = room; word = w }) else Err 7
-in_room m v = Err 8
+in_room m v = Err 1
 
 -- a read-only view takes no store
 abbrev pub takes_stores : Room → Got ℕ
 takes_stores (Resource k) = Err 8
 takes_stores room = Ok 0
 
--- scopes and semantics: Device 1 and Workgroup 2; AcquireRelease 8 with UniformMemory 0x40 and WorkgroupMemory 0x100, or 0
+-- scopes, and semantics: none, or acquire and release of the words of buffers, of shared memory or of both; no other number has a meaning
 abbrev pub scope_of : ℕ → Got Scope
-scope_of n = if nat_eq n 1 then Ok Device else if nat_eq n 2 then Ok Group else Err 8
+scope_of n = if nat_eq n DeviceScope then Ok Device else if nat_eq n WorkgroupScope then Ok Group else Err 8
 
 abbrev pub classes : Bool → Bool → Classes
 classes buffers shared = record { buffers = buffers; shared = shared }
@@ -145,9 +180,9 @@ classes buffers shared = record { buffers = buffers; shared = shared }
 abbrev pub classes_of : ℕ → Got Classes
 classes_of n =
     if nat_eq n 0 then Ok (classes false false) else
-    if nat_eq n 0x48 then Ok (classes true false) else
-    if nat_eq n 0x108 then Ok (classes false true) else
-    if nat_eq n 0x148 then Ok (classes true true) else
+    if nat_eq n (AcquireRelease + UniformMemory) then Ok (classes true false) else
+    if nat_eq n (AcquireRelease + WorkgroupMemory) then Ok (classes false true) else
+    if nat_eq n (AcquireRelease + UniformMemory + WorkgroupMemory) then Ok (classes true true) else
     Err 8
 
 -- what an atomic with one value does

@@ -2,10 +2,12 @@
 -- without a definition has no sort, and breaks another rule.
 use Rattle.std.specs.Prelude.{ℕ, nat_eq, if◌then◌else◌, Bool, true, false, ◌&&◌, ◌||◌, List, [], ◌∷◌, Option, Some, None, slice_get, is_some}
 use Rattle.std.specs.List.{list_all}
-use Rattle.spirv_words.specs.Operations.{Op, op_of, OpTypeInt, OpTypeVector, OpTypeArray, OpTypeRuntimeArray, OpTypeStruct, OpTypePointer, OpTypeFunction, OpConstantTrue, OpConstantFalse, OpConstant, OpConstantComposite, OpConstantNull, OpCompositeConstruct, OpCompositeExtract, OpFunction, OpVariable, OpLoad, OpStore, OpAccessChain, OpArrayLength, OpExtInst, OpIAdd, OpISub, OpIMul, OpUDiv, OpUMod, OpIAddCarry, OpISubBorrow, OpUMulExtended, OpSMulExtended, OpLogicalOr, OpLogicalAnd, OpLogicalNot, OpSelect, OpIEqual, OpINotEqual, OpUGreaterThanEqual, OpSGreaterThanEqual, OpULessThan, OpSLessThan, OpShiftRightLogical, OpShiftRightArithmetic, OpShiftLeftLogical, OpBitwiseOr, OpBitwiseXor, OpBitwiseAnd, OpNot, OpBitFieldInsert, OpBitFieldSExtract, OpBitFieldUExtract, OpBitReverse, OpBitCount, OpControlBarrier, OpMemoryBarrier, OpAtomicExchange, OpAtomicCompareExchange, OpAtomicIAdd, OpAtomicISub, OpAtomicSMin, OpAtomicUMin, OpAtomicSMax, OpAtomicUMax, OpAtomicAnd, OpAtomicOr, OpAtomicXor, OpBranchConditional, OpSwitch}
-use Rattle.spirv_words.specs.Text.{Instr}
-use Rattle.spirv_words.specs.Ids.{ids_of, definition, type_of}
-use Rattle.spirv_words.specs.Sorts.{Sort, Vector, Array, RuntimeArray, Struct, Pointer, Function, sort_of, sort_of_value, literal_of, is_words, is_truths, is_type, is_pair, is_vector_of_words, points_to_word, parts_of_sort}
+use Rattle.spirv_words.specs.StorageClass.{StorageBuffer, has_events, is_own}
+use Rattle.spirv_words.specs.Roles.{ValueSort, AWord, ATruth, APair, Asks, Makes, Takes, Selects, Loads, Stores, Chains, Lengths, Extracts, Composes, Gathers, Constants, Nulls, Extends, Atomics, Variables, Functions, Types, Integers, Arrays, Pointers, Free}
+use Rattle.spirv_words.specs.Operations.{Op, OpExtInstImport, row_of, op_of}
+use Rattle.spirv_words.specs.Text.{Instr, is_op}
+use Rattle.spirv_words.specs.Ids.{ids_of, definition, declared, type_of, defines, is_a_constant}
+use Rattle.spirv_words.specs.Sorts.{Sort, Vector, Array, RuntimeArray, Struct, Pointer, Function, sort_of, sort_of_value, literal_of, is_words, is_truths, is_type, is_pair, is_data, moves, same_type, parts_of_sort}
 
 -- a test of an operand that has a definition, and of one that is a type
 abbrev pub defined_and : List Instr → ℕ → Bool → Bool
@@ -17,117 +19,18 @@ value_is code test x = defined_and code x (test (sort_of_value code x))
 abbrev pub type_is : List Instr → (Sort → Bool) → ℕ → Bool
 type_is code test t = defined_and code t (test (sort_of code t))
 
-abbrev pub is_just : Option ℕ → ℕ → Bool
-is_just None t = false
-is_just (Some u) t = nat_eq u t
+abbrev pub is_same : List Instr → Option ℕ → ℕ → Bool
+is_same code None t = false
+is_same code (Some u) t = same_type code u t
 
 abbrev pub has_type : List Instr → ℕ → ℕ → Bool
-has_type code x t = defined_and code x (is_just (type_of code x) t)
+has_type code x t = defined_and code x (is_same code (type_of code x) t)
 
 -- what most instructions ask of values
-pub data Wanted : Type 0 where
-  AWord : Wanted
-  ATruth : Wanted
-  APair : Wanted
-
-abbrev pub wants : List Instr → Wanted → Sort → Bool
+abbrev pub wants : List Instr → ValueSort → Sort → Bool
 wants code AWord s = is_words s
 wants code ATruth s = is_truths s
 wants code APair s = is_pair code s
-
--- The instructions by what they ask: those that make a value of one sort from values of another, those that use values of one sort,
--- and the rest, each by itself.
-pub data Row : Type 0 where
-  Makes : (result operands : Wanted) → Row
-  Takes : (operands : Wanted) → Row
-  Selects : Row
-  Loads : Row
-  Stores : Row
-  Chains : Row
-  Lengths : Row
-  Extracts : Row
-  Composes : Row
-  Constants : Row
-  Nulls : Row
-  Extends : Row
-  Atomics : Row
-  Variables : Row
-  Functions : Row
-  Types : Row
-  Integers : Row
-  Arrays : Row
-  Pointers : Row
-  Free : Row
-
-abbrev pub row_of : Op → Row
-row_of OpIAdd = Makes AWord AWord
-row_of OpISub = Makes AWord AWord
-row_of OpIMul = Makes AWord AWord
-row_of OpUDiv = Makes AWord AWord
-row_of OpUMod = Makes AWord AWord
-row_of OpShiftRightLogical = Makes AWord AWord
-row_of OpShiftRightArithmetic = Makes AWord AWord
-row_of OpShiftLeftLogical = Makes AWord AWord
-row_of OpBitwiseOr = Makes AWord AWord
-row_of OpBitwiseXor = Makes AWord AWord
-row_of OpBitwiseAnd = Makes AWord AWord
-row_of OpNot = Makes AWord AWord
-row_of OpBitFieldInsert = Makes AWord AWord
-row_of OpBitFieldSExtract = Makes AWord AWord
-row_of OpBitFieldUExtract = Makes AWord AWord
-row_of OpBitReverse = Makes AWord AWord
-row_of OpBitCount = Makes AWord AWord
-row_of OpIAddCarry = Makes APair AWord
-row_of OpISubBorrow = Makes APair AWord
-row_of OpUMulExtended = Makes APair AWord
-row_of OpSMulExtended = Makes APair AWord
-row_of OpIEqual = Makes ATruth AWord
-row_of OpINotEqual = Makes ATruth AWord
-row_of OpUGreaterThanEqual = Makes ATruth AWord
-row_of OpSGreaterThanEqual = Makes ATruth AWord
-row_of OpULessThan = Makes ATruth AWord
-row_of OpSLessThan = Makes ATruth AWord
-row_of OpLogicalOr = Makes ATruth ATruth
-row_of OpLogicalAnd = Makes ATruth ATruth
-row_of OpLogicalNot = Makes ATruth ATruth
-row_of OpConstantTrue = Makes ATruth ATruth
-row_of OpConstantFalse = Makes ATruth ATruth
-row_of OpConstant = Constants
-row_of OpConstantNull = Nulls
-row_of OpConstantComposite = Composes
-row_of OpCompositeConstruct = Composes
-row_of OpCompositeExtract = Extracts
-row_of OpSelect = Selects
-row_of OpLoad = Loads
-row_of OpStore = Stores
-row_of OpAccessChain = Chains
-row_of OpArrayLength = Lengths
-row_of OpExtInst = Extends
-row_of OpAtomicExchange = Atomics
-row_of OpAtomicCompareExchange = Atomics
-row_of OpAtomicIAdd = Atomics
-row_of OpAtomicISub = Atomics
-row_of OpAtomicSMin = Atomics
-row_of OpAtomicUMin = Atomics
-row_of OpAtomicSMax = Atomics
-row_of OpAtomicUMax = Atomics
-row_of OpAtomicAnd = Atomics
-row_of OpAtomicOr = Atomics
-row_of OpAtomicXor = Atomics
-row_of OpControlBarrier = Takes AWord
-row_of OpMemoryBarrier = Takes AWord
-row_of OpSwitch = Takes AWord
-row_of OpBranchConditional = Takes ATruth
-row_of OpVariable = Variables
-row_of OpFunction = Functions
-row_of OpTypeInt = Integers
-row_of OpTypeVector = Types
-row_of OpTypeRuntimeArray = Types
-row_of OpTypeStruct = Types
-row_of OpTypeFunction = Types
-row_of OpTypeArray = Arrays
-row_of OpTypePointer = Pointers
-row_of op = Free
 
 -- Where indices lead by their types: to a type, past what is known (behind the end of a struct, or by an index without a definition), or
 -- nowhere. An index of an access chain into a struct is a constant.
@@ -179,24 +82,30 @@ leads_to (Leads t) test = test t
 leads_to Past test = true
 leads_to Nowhere test = false
 
-abbrev pub is_pointer_to : Sort → ℕ → ℕ → Bool
-is_pointer_to (Pointer class pointee) c t = nat_eq class c && nat_eq pointee t
-is_pointer_to s c t = false
+abbrev pub is_pointer_to : List Instr → Sort → ℕ → ℕ → Bool
+is_pointer_to code (Pointer class pointee) c t = nat_eq class c && same_type code pointee t
+is_pointer_to code s c t = false
 
 abbrev pub is_pointer : Sort → Bool
 is_pointer (Pointer class pointee) = true
 is_pointer s = false
 
--- a load moves one word, or a vector of an Input variable
-abbrev pub is_loaded : List Instr → Sort → Bool
-is_loaded code s = is_words s || is_vector_of_words code s
-
+-- a load of a type, a store of a value, and an atomic, through a pointer of that sort
 abbrev pub loads : List Instr → ℕ → Sort → Bool
-loads code t (Pointer class pointee) = type_is code (λ s. nat_eq pointee t && (is_words s || nat_eq class 1)) t
+loads code t (Pointer class pointee) = type_is code (λ s. same_type code pointee t && moves code class s) t
 loads code t s = false
 
+abbrev pub stores : List Instr → ℕ → Sort → Bool
+stores code x (Pointer class pointee) =
+    (has_events class || is_own class) && (moves code class (sort_of code pointee) && has_type code x pointee)
+stores code x s = false
+
+abbrev pub changes : List Instr → Sort → Bool
+changes code (Pointer class pointee) = has_events class && is_words (sort_of code pointee)
+changes code s = false
+
 abbrev pub chains : List Instr → ℕ → List ℕ → Sort → Bool
-chains code t xs (Pointer class pointee) = leads_to (chain_way code xs pointee) (λ u. type_is code (λ s. is_pointer_to s class u) t)
+chains code t xs (Pointer class pointee) = leads_to (chain_way code xs pointee) (λ u. type_is code (λ s. is_pointer_to code s class u) t)
 chains code t xs s = false
 
 -- the pointee is a struct whose member of that number is an array without a length
@@ -213,7 +122,7 @@ has_runtime_member code k (Struct members) = is_runtime_member code (slice_get m
 has_runtime_member code k s = false
 
 abbrev pub measures : List Instr → ℕ → Sort → Bool
-measures code k (Pointer class pointee) = has_runtime_member code k (sort_of code pointee)
+measures code k (Pointer class pointee) = nat_eq class StorageBuffer && has_runtime_member code k (sort_of code pointee)
 measures code k s = false
 
 -- the values have these types, one each
@@ -228,54 +137,68 @@ is_composite (Array element count) = true
 is_composite (Struct members) = true
 is_composite s = false
 
-abbrev pub is_data : Sort → Bool
-is_data s = is_words s || (is_truths s || is_composite s)
+-- a constant in front of the function
+abbrev pub is_constant_instr : Option Instr → Bool
+is_constant_instr None = false
+is_constant_instr (Some i) = is_a_constant (defines i)
+
+abbrev pub is_constant : List Instr → ℕ → Bool
+is_constant code x = defined_and code x (is_constant_instr (definition (declared code) x))
 
 abbrev pub is_import : Option Instr → Bool
 is_import None = true
-is_import (Some i) = nat_eq i.op 11
+is_import (Some i) = is_op OpExtInstImport i
 
 abbrev pub declares : List Instr → ℕ → List ℕ → Sort → Bool
 declares code class initializer (Pointer c pointee) = nat_eq c class && list_all (λ x. has_type code x pointee) initializer
 declares code class initializer s = false
 
+-- The parts of a composite are words, truths and composites of these. So no pointer is put into one or taken out of one.
 abbrev pub composes : List Instr → List ℕ → Sort → Bool
-composes code xs s = is_composite s && have_types code xs (parts_of_sort s)
+composes code xs s = is_composite s && (is_data code s && have_types code xs (parts_of_sort s))
 
 abbrev pub extracts : List Instr → ℕ → Way → Bool
-extracts code t way = leads_to way (λ u. type_is code (λ s. nat_eq u t) t)
+extracts code t way = leads_to way (λ u. type_is code (λ s. same_type code u t) t)
 
 abbrev pub returns : List Instr → ℕ → Sort → Bool
 returns code t (Function result parameters) = type_is code (λ s. nat_eq result t) t
 returns code t s = false
 
--- what an instruction of a row asks of its operands
-abbrev pub row_holds : List Instr → Row → List ℕ → List ℕ → Bool
-row_holds code (Makes result operands) uses (t ∷ r ∷ xs) = type_is code (wants code result) t && list_all (value_is code (wants code operands)) xs
+-- what an instruction asks of its operands
+abbrev pub row_holds : List Instr → Asks → List ℕ → List ℕ → Bool
+row_holds code (Makes result operands) uses (t ∷ r ∷ xs) =
+    type_is code (wants code result) t && list_all (value_is code (wants code operands)) xs
 row_holds code (Takes operands) uses os = list_all (value_is code (wants code operands)) uses
-row_holds code Selects uses (t ∷ r ∷ c ∷ xs) = type_is code is_words t && (value_is code is_truths c && list_all (value_is code is_words) xs)
-row_holds code Loads uses (t ∷ r ∷ p ∷ rest) = type_is code (is_loaded code) t && value_is code (loads code t) p
-row_holds code Stores uses (p ∷ x ∷ rest) = value_is code (points_to_word code) p && value_is code is_words x
-row_holds code Chains uses (t ∷ r ∷ p ∷ xs) = type_is code is_pointer t && (list_all (value_is code is_words) xs && value_is code (chains code t xs) p)
+row_holds code Selects uses (t ∷ r ∷ c ∷ xs) =
+    type_is code is_words t && (value_is code is_truths c && list_all (value_is code is_words) xs)
+row_holds code Loads uses (t ∷ r ∷ p ∷ rest) = type_is code (is_data code) t && value_is code (loads code t) p
+row_holds code Stores uses (p ∷ x ∷ rest) = value_is code (stores code x) p && value_is code (is_data code) x
+row_holds code Chains uses (t ∷ r ∷ p ∷ xs) =
+    type_is code is_pointer t && (list_all (value_is code is_words) xs && value_is code (chains code t xs) p)
 row_holds code Lengths uses (t ∷ r ∷ p ∷ k ∷ []) = type_is code is_words t && value_is code (measures code k) p
-row_holds code Extracts uses (t ∷ r ∷ c ∷ ks) = type_is code is_type t && defined_and code c (extracts code t (way_from (extract_way code ks) (type_of code c)))
+row_holds code Extracts uses (t ∷ r ∷ c ∷ ks) =
+    type_is code (is_data code) t && defined_and code c (extracts code t (way_from (extract_way code ks) (type_of code c)))
 row_holds code Composes uses (t ∷ r ∷ xs) = type_is code (composes code xs) t
+row_holds code Gathers uses (t ∷ r ∷ xs) = type_is code (composes code xs) t && list_all (is_constant code) xs
 row_holds code Constants uses (t ∷ r ∷ word ∷ []) = type_is code is_words t
-row_holds code Nulls uses (t ∷ r ∷ []) = type_is code is_data t
-row_holds code Extends uses (t ∷ r ∷ set ∷ n ∷ xs) = type_is code is_words t && (is_import (definition code set) && list_all (value_is code is_words) xs)
-row_holds code Atomics uses (t ∷ r ∷ p ∷ xs) = type_is code is_words t && (value_is code (points_to_word code) p && list_all (value_is code is_words) xs)
+row_holds code Nulls uses (t ∷ r ∷ []) = type_is code (is_data code) t
+row_holds code Extends uses (t ∷ r ∷ set ∷ n ∷ xs) =
+    type_is code is_words t && (is_import (definition code set) && list_all (value_is code is_words) xs)
+row_holds code Atomics uses (t ∷ r ∷ p ∷ xs) =
+    type_is code is_words t && (value_is code (changes code) p && list_all (value_is code is_words) xs)
 row_holds code Variables uses (t ∷ r ∷ class ∷ initializer) = type_is code (declares code class initializer) t
 row_holds code Functions uses (t ∷ r ∷ control ∷ f ∷ []) = type_is code is_type t && type_is code (returns code t) f
 row_holds code Types uses os = list_all (type_is code is_type) uses
 row_holds code Integers uses (r ∷ width ∷ sign ∷ []) = nat_eq width 32 && nat_eq sign 0
-row_holds code Arrays uses (r ∷ element ∷ length ∷ []) = type_is code is_type element && defined_and code length (is_some (literal_of code length))
+row_holds code Arrays uses (r ∷ element ∷ length ∷ []) =
+    type_is code is_type element && defined_and code length (is_some (literal_of code length))
 row_holds code Pointers uses (r ∷ class ∷ pointee ∷ []) = type_is code is_type pointee
 row_holds code Free uses os = true
-row_holds code row uses os = false
+row_holds code asks uses os = false
 
 abbrev pub op_sorted : List Instr → Option Op → List ℕ → List ℕ → Bool
 op_sorted code None uses os = true
-op_sorted code (Some op) uses os = row_holds code (row_of op) uses os
+op_sorted code (Some op) uses os = row_holds code (row_of op).asks uses os
 
 -- no operand that has a definition is of another sort than asked
 abbrev pub is_sorted : List Instr → Instr → Bool

@@ -2,7 +2,11 @@
 use Rattle.std.specs.Prelude.{◌≡◌, ℕ, true, false, List, [], ◌∷◌, replicate, map, Some, None, Ok, refl}
 use Rattle.word_base.specs.Lanes.{Wrong}
 use Rattle.word_base.specs.declared.event.Ids.{Ids}
-use Rattle.spirv_words.specs.Text.{Instr, instr}
+use Rattle.spirv_words.specs.StorageClass.{Function, Private, Uniform}
+use Rattle.spirv_words.specs.Decoration.{ArrayStride, Binding, DescriptorSet}
+use Rattle.spirv_words.specs.Enumerants.{GLCompute, glsl_text, main_text}
+use Rattle.spirv_words.specs.Operations.{OpAccessChain, OpCompositeConstruct, OpCompositeExtract, OpConstant, OpConstantComposite, OpConstantNull, OpConstantTrue, OpDecorate, OpEntryPoint, OpExtInstImport, OpFunction, OpFunctionEnd, OpIAdd, OpLabel, OpLoad, OpTypeArray, OpTypeBool, OpTypeFunction, OpTypeInt, OpTypePointer, OpTypeRuntimeArray, OpTypeStruct, OpTypeVector, OpTypeVoid, OpVariable}
+use Rattle.spirv_words.specs.Text.{Instr, instruction}
 use Rattle.spirv_words.specs.Ids.{declared}
 use Rattle.spirv_words.specs.Sorts.{Pointer}
 use Rattle.spirv_words.specs.Values.{Value, Word, Truth, AtLocal, AtConstants, of_parts}
@@ -16,27 +20,39 @@ use Rattle.spirv_words.specs.LaneExamples.{at}
 -- stride, both in constant buffers; 41 and 45 private.
 abbrev pub parts : List Instr
 parts =
-    instr 15 (5 ∷ 1 ∷ 0x6E69616D ∷ 0 ∷ []) ∷
-    instr 71 (30 ∷ 34 ∷ 0 ∷ []) ∷ instr 71 (30 ∷ 33 ∷ 0 ∷ []) ∷ instr 71 (31 ∷ 34 ∷ 0 ∷ []) ∷ instr 71 (31 ∷ 33 ∷ 1 ∷ []) ∷
-    instr 71 (14 ∷ 6 ∷ 16 ∷ []) ∷
-    instr 19 (2 ∷ []) ∷ instr 33 (3 ∷ 2 ∷ []) ∷ instr 20 (4 ∷ []) ∷ instr 21 (5 ∷ 32 ∷ 0 ∷ []) ∷  -- 6 to 9
-    instr 43 (5 ∷ 6 ∷ 0 ∷ []) ∷ instr 43 (5 ∷ 7 ∷ 1 ∷ []) ∷ instr 43 (5 ∷ 8 ∷ 2 ∷ []) ∷ instr 43 (5 ∷ 9 ∷ 9 ∷ []) ∷  -- 10 to 13
-    instr 41 (4 ∷ 13 ∷ []) ∷
-    instr 23 (10 ∷ 5 ∷ 4 ∷ []) ∷ instr 28 (11 ∷ 10 ∷ 8 ∷ []) ∷ instr 30 (12 ∷ 4 ∷ 5 ∷ []) ∷ instr 29 (14 ∷ 10 ∷ []) ∷  -- 15 to 18
-    instr 44 (10 ∷ 20 ∷ 6 ∷ 7 ∷ 8 ∷ 9 ∷ []) ∷ instr 44 (10 ∷ 21 ∷ 9 ∷ 8 ∷ 7 ∷ 6 ∷ []) ∷ instr 44 (11 ∷ 22 ∷ 20 ∷ 21 ∷ []) ∷
-    instr 46 (11 ∷ 23 ∷ []) ∷ instr 46 (12 ∷ 24 ∷ []) ∷  -- 22, 23
-    instr 32 (16 ∷ 2 ∷ 14 ∷ []) ∷ instr 32 (17 ∷ 2 ∷ 5 ∷ []) ∷ instr 59 (16 ∷ 30 ∷ 2 ∷ []) ∷
-    instr 32 (19 ∷ 2 ∷ 11 ∷ []) ∷ instr 59 (19 ∷ 31 ∷ 2 ∷ []) ∷  -- 27, 28
-    instr 32 (40 ∷ 6 ∷ 11 ∷ []) ∷ instr 59 (40 ∷ 41 ∷ 6 ∷ 22 ∷ []) ∷ instr 59 (40 ∷ 45 ∷ 6 ∷ 23 ∷ []) ∷ instr 32 (43 ∷ 7 ∷ 11 ∷ []) ∷
-    instr 54 (2 ∷ 1 ∷ 0 ∷ 3 ∷ []) ∷ instr 248 (18 ∷ []) ∷  -- 33, 34
-    instr 81 (5 ∷ 50 ∷ 22 ∷ 1 ∷ 0 ∷ []) ∷ instr 81 (5 ∷ 51 ∷ 22 ∷ 2 ∷ 0 ∷ []) ∷  -- 35, 36
-    instr 80 (12 ∷ 52 ∷ 13 ∷ 9 ∷ []) ∷ instr 81 (4 ∷ 53 ∷ 52 ∷ 0 ∷ []) ∷  -- 37, 38
-    instr 65 (17 ∷ 54 ∷ 31 ∷ 7 ∷ 8 ∷ []) ∷ instr 65 (17 ∷ 55 ∷ 31 ∷ 7 ∷ 9 ∷ []) ∷  -- 39, 40
-    instr 65 (17 ∷ 56 ∷ 30 ∷ 9 ∷ 8 ∷ []) ∷ instr 61 (5 ∷ 57 ∷ 56 ∷ []) ∷ instr 65 (17 ∷ 58 ∷ 30 ∷ 9 ∷ 9 ∷ []) ∷  -- 41 to 43
-    instr 59 (43 ∷ 59 ∷ 7 ∷ 23 ∷ []) ∷  -- 44
-    instr 65 (17 ∷ 60 ∷ 30 ∷ 99 ∷ 8 ∷ []) ∷ instr 81 (99 ∷ 61 ∷ 22 ∷ 1 ∷ 0 ∷ []) ∷ instr 61 (99 ∷ 62 ∷ 31 ∷ []) ∷  -- 45 to 47
-    instr 128 (70 ∷ 63 ∷ 7 ∷ 8 ∷ []) ∷ instr 128 (70 ∷ 64 ∷ 7 ∷ 13 ∷ []) ∷ instr 21 (70 ∷ 32 ∷ 0 ∷ []) ∷  -- 48 to 50
-    instr 80 (99 ∷ 65 ∷ 13 ∷ 9 ∷ []) ∷ instr 65 (17 ∷ 66 ∷ 99 ∷ 13 ∷ []) ∷ []  -- 51, 52
+    instruction OpEntryPoint (GLCompute ∷ 1 ∷ main_text) ∷
+    instruction OpDecorate (30 ∷ DescriptorSet ∷ 0 ∷ []) ∷ instruction OpDecorate (30 ∷ Binding ∷ 0 ∷ []) ∷
+    instruction OpDecorate (31 ∷ DescriptorSet ∷ 0 ∷ []) ∷ instruction OpDecorate (31 ∷ Binding ∷ 1 ∷ []) ∷
+    instruction OpDecorate (14 ∷ ArrayStride ∷ 16 ∷ []) ∷
+    instruction OpTypeVoid (2 ∷ []) ∷ instruction OpTypeFunction (3 ∷ 2 ∷ []) ∷ instruction OpTypeBool (4 ∷ []) ∷
+    instruction OpTypeInt (5 ∷ 32 ∷ 0 ∷ []) ∷  -- 6 to 9
+    instruction OpConstant (5 ∷ 6 ∷ 0 ∷ []) ∷ instruction OpConstant (5 ∷ 7 ∷ 1 ∷ []) ∷
+    instruction OpConstant (5 ∷ 8 ∷ 2 ∷ []) ∷ instruction OpConstant (5 ∷ 9 ∷ 9 ∷ []) ∷  -- 10 to 13
+    instruction OpConstantTrue (4 ∷ 13 ∷ []) ∷
+    instruction OpTypeVector (10 ∷ 5 ∷ 4 ∷ []) ∷ instruction OpTypeArray (11 ∷ 10 ∷ 8 ∷ []) ∷
+    instruction OpTypeStruct (12 ∷ 4 ∷ 5 ∷ []) ∷ instruction OpTypeRuntimeArray (14 ∷ 10 ∷ []) ∷  -- 15 to 18
+    instruction OpConstantComposite (10 ∷ 20 ∷ 6 ∷ 7 ∷ 8 ∷ 9 ∷ []) ∷
+    instruction OpConstantComposite (10 ∷ 21 ∷ 9 ∷ 8 ∷ 7 ∷ 6 ∷ []) ∷
+    instruction OpConstantComposite (11 ∷ 22 ∷ 20 ∷ 21 ∷ []) ∷
+    instruction OpConstantNull (11 ∷ 23 ∷ []) ∷ instruction OpConstantNull (12 ∷ 24 ∷ []) ∷  -- 22, 23
+    instruction OpTypePointer (16 ∷ Uniform ∷ 14 ∷ []) ∷ instruction OpTypePointer (17 ∷ Uniform ∷ 5 ∷ []) ∷
+    instruction OpVariable (16 ∷ 30 ∷ Uniform ∷ []) ∷
+    instruction OpTypePointer (19 ∷ Uniform ∷ 11 ∷ []) ∷ instruction OpVariable (19 ∷ 31 ∷ Uniform ∷ []) ∷  -- 27, 28
+    instruction OpTypePointer (40 ∷ Private ∷ 11 ∷ []) ∷ instruction OpVariable (40 ∷ 41 ∷ Private ∷ 22 ∷ []) ∷
+    instruction OpVariable (40 ∷ 45 ∷ Private ∷ 23 ∷ []) ∷ instruction OpTypePointer (43 ∷ Function ∷ 11 ∷ []) ∷
+    instruction OpFunction (2 ∷ 1 ∷ 0 ∷ 3 ∷ []) ∷ instruction OpLabel (18 ∷ []) ∷  -- 33, 34
+    instruction OpCompositeExtract (5 ∷ 50 ∷ 22 ∷ 1 ∷ 0 ∷ []) ∷
+    instruction OpCompositeExtract (5 ∷ 51 ∷ 22 ∷ 2 ∷ 0 ∷ []) ∷  -- 35, 36
+    instruction OpCompositeConstruct (12 ∷ 52 ∷ 13 ∷ 9 ∷ []) ∷ instruction OpCompositeExtract (4 ∷ 53 ∷ 52 ∷ 0 ∷ []) ∷  -- 37, 38
+    instruction OpAccessChain (17 ∷ 54 ∷ 31 ∷ 7 ∷ 8 ∷ []) ∷ instruction OpAccessChain (17 ∷ 55 ∷ 31 ∷ 7 ∷ 9 ∷ []) ∷  -- 39, 40
+    instruction OpAccessChain (17 ∷ 56 ∷ 30 ∷ 9 ∷ 8 ∷ []) ∷ instruction OpLoad (5 ∷ 57 ∷ 56 ∷ []) ∷
+    instruction OpAccessChain (17 ∷ 58 ∷ 30 ∷ 9 ∷ 9 ∷ []) ∷  -- 41 to 43
+    instruction OpVariable (43 ∷ 59 ∷ Function ∷ 23 ∷ []) ∷  -- 44
+    instruction OpAccessChain (17 ∷ 60 ∷ 30 ∷ 99 ∷ 8 ∷ []) ∷
+    instruction OpCompositeExtract (99 ∷ 61 ∷ 22 ∷ 1 ∷ 0 ∷ []) ∷ instruction OpLoad (99 ∷ 62 ∷ 31 ∷ []) ∷  -- 45 to 47
+    instruction OpIAdd (70 ∷ 63 ∷ 7 ∷ 8 ∷ []) ∷ instruction OpIAdd (70 ∷ 64 ∷ 7 ∷ 13 ∷ []) ∷
+    instruction OpTypeInt (70 ∷ 32 ∷ 0 ∷ []) ∷  -- 48 to 50
+    instruction OpCompositeConstruct (99 ∷ 65 ∷ 13 ∷ 9 ∷ []) ∷ instruction OpAccessChain (17 ∷ 66 ∷ 99 ∷ 13 ∷ []) ∷ []  -- 51, 52
 
 abbrev pub two_buffers : Ids → Machine
 two_buffers ids = record {
@@ -66,8 +82,8 @@ past_two_vectors ids = refl
 pub struct_of_truth : (ids : Ids) → step (two_buffers ids) (here ids 37) ≡ sets (here ids 37) 52 a_truth_and_9
 struct_of_truth ids = refl
 
-pub truth_of_struct : (ids : Ids) →
-    step (two_buffers ids) (with_value (here ids 37) 52 a_truth_and_9) ≡ sets (with_value (here ids 37) 52 a_truth_and_9) 53 (Truth true)
+pub truth_of_struct : (ids : Ids) → step (two_buffers ids) (with_value (here ids 37) 52 a_truth_and_9) ≡
+    sets (with_value (here ids 37) 52 a_truth_and_9) 53 (Truth true)
 truth_of_struct ids = refl
 
 -- a missing stride, and one in front of an index past a vector
@@ -91,19 +107,23 @@ pub past_a_vector : (ids : Ids) → step (two_buffers ids) (here ids 43) ≡ Wro
 past_a_vector ids = refl
 
 -- variables that begin with two vectors and with nulls, private ones and one of the function
-pub private_vectors : (ids : Ids) → map (initial_memory (two_buffers ids) 41) (0 ∷ 3 ∷ 4 ∷ 7 ∷ 8 ∷ []) ≡ Some 0 ∷ Some 9 ∷ Some 9 ∷ Some 0 ∷ None ∷ []
+pub private_vectors : (ids : Ids) → map (initial_memory (two_buffers ids) 41) (0 ∷ 3 ∷ 4 ∷ 7 ∷ 8 ∷ []) ≡
+    Some 0 ∷ Some 9 ∷ Some 9 ∷ Some 0 ∷ None ∷ []
 private_vectors ids = refl
 
-pub private_null : (ids : Ids) → map (initial_memory (two_buffers ids) 45) (0 ∷ 7 ∷ 8 ∷ []) ≡ Some 0 ∷ Some 0 ∷ None ∷ []
+pub private_null : (ids : Ids) → map (initial_memory (two_buffers ids) 45) (0 ∷ 7 ∷ 8 ∷ []) ≡
+    Some 0 ∷ Some 0 ∷ None ∷ []
 private_null ids = refl
 
 pub null_of_function : (ids : Ids) → step (two_buffers ids) (here ids 44) ≡ begins (here ids 44) 59 (replicate 8 0)
 null_of_function ids = refl
 
-pub word_of_private_vectors : (ids : Ids) → chained (two_buffers ids) (Pointer 6 11) (AtLocal 41 0) (1 ∷ 2 ∷ []) ≡ Ok (AtLocal 41 6)
+pub word_of_private_vectors : (ids : Ids) → chained (two_buffers ids) (Pointer Private 11) (AtLocal 41 0) (1 ∷ 2 ∷ []) ≡
+    Ok (AtLocal 41 6)
 word_of_private_vectors ids = refl
 
-pub word_behind_a_truth : (ids : Ids) → chained (two_buffers ids) (Pointer 7 12) (AtLocal 59 0) (1 ∷ []) ≡ Ok (AtLocal 59 1)
+pub word_behind_a_truth : (ids : Ids) → chained (two_buffers ids) (Pointer Function 12) (AtLocal 59 0) (1 ∷ []) ≡
+    Ok (AtLocal 59 1)
 word_behind_a_truth ids = refl
 
 pub null_of_truth : (ids : Ids) → global (two_buffers ids) 24 ≡ Some (of_parts (Truth false ∷ Word 0 ∷ []))
@@ -133,11 +153,15 @@ pub late_type_of_truth : (ids : Ids) → step (two_buffers ids) (here ids 49) �
 late_type_of_truth ids = refl
 
 -- of two imports with one id the first counts
-pub other_import_first : is_glsl (instr 11 (1 ∷ 0x4C534C47 ∷ 0 ∷ []) ∷ instr 11 (1 ∷ 0x4C534C47 ∷ 0x6474732E ∷ 0x3035342E ∷ 0 ∷ []) ∷ []) 1 ≡ false
+pub other_import_first : is_glsl (instruction OpExtInstImport (1 ∷ 0x4C534C47 ∷ 0 ∷ []) ∷
+    instruction OpExtInstImport (1 ∷ glsl_text) ∷ []) 1 ≡ false
 other_import_first = refl
 
 -- what stands in a function in front of the one that the entry point names is declared
 pub declared_behind_another :
-    declared (instr 15 (5 ∷ 1 ∷ 0x6E69616D ∷ 0 ∷ []) ∷ instr 54 (2 ∷ 7 ∷ 0 ∷ 3 ∷ []) ∷ instr 56 [] ∷ instr 54 (2 ∷ 1 ∷ 0 ∷ 3 ∷ []) ∷ instr 56 [] ∷ [])
-    ≡ instr 15 (5 ∷ 1 ∷ 0x6E69616D ∷ 0 ∷ []) ∷ instr 54 (2 ∷ 7 ∷ 0 ∷ 3 ∷ []) ∷ instr 56 [] ∷ []
+    declared (instruction OpEntryPoint (GLCompute ∷ 1 ∷ main_text) ∷
+    instruction OpFunction (2 ∷ 7 ∷ 0 ∷ 3 ∷ []) ∷ instruction OpFunctionEnd [] ∷
+    instruction OpFunction (2 ∷ 1 ∷ 0 ∷ 3 ∷ []) ∷ instruction OpFunctionEnd [] ∷ [])
+    ≡ instruction OpEntryPoint (GLCompute ∷ 1 ∷ main_text) ∷ instruction OpFunction (2 ∷ 7 ∷ 0 ∷ 3 ∷ []) ∷
+    instruction OpFunctionEnd [] ∷ []
 declared_behind_another = refl

@@ -1,6 +1,8 @@
 -- The smallest module: a compute shader that returns at once, with its thread group's size.
 use Rattle.std.specs.Prelude.{◌≡◌, ℕ, [], ◌∷◌, ◌++◌, refl}
-use Rattle.spirv_words.specs.Text.{Module, instr, header_of, words_of_code}
+use Rattle.spirv_words.specs.Enumerants.{GLCompute, GLSL450, LocalSize, Logical, Shader, main_text}
+use Rattle.spirv_words.specs.Operations.{OpCapability, OpEntryPoint, OpExecutionMode, OpFunction, OpFunctionEnd, OpLabel, OpMemoryModel, OpReturn, OpTypeFunction, OpTypeVoid}
+use Rattle.spirv_words.specs.Text.{Module, instruction, header_of, words_of_code}
 
 -- The ids are 1 for the function `main`, 2 for void, 3 for the function's type and 4 for its block.
 abbrev pub smallest : ℕ → ℕ → ℕ → ℕ → Module
@@ -8,16 +10,16 @@ smallest version x y z = record {
   version = version;
   bound = 5;
   code =
-      instr 17 (1 ∷ []) ∷
-      instr 14 (0 ∷ 1 ∷ []) ∷
-      instr 15 (5 ∷ 1 ∷ 0x6E69616D ∷ 0 ∷ []) ∷
-      instr 16 (1 ∷ 17 ∷ x ∷ y ∷ z ∷ []) ∷
-      instr 19 (2 ∷ []) ∷
-      instr 33 (3 ∷ 2 ∷ []) ∷
-      instr 54 (2 ∷ 1 ∷ 0 ∷ 3 ∷ []) ∷
-      instr 248 (4 ∷ []) ∷
-      instr 253 [] ∷
-      instr 56 [] ∷ [];
+      instruction OpCapability (Shader ∷ []) ∷
+      instruction OpMemoryModel (Logical ∷ GLSL450 ∷ []) ∷
+      instruction OpEntryPoint (GLCompute ∷ 1 ∷ main_text) ∷
+      instruction OpExecutionMode (1 ∷ LocalSize ∷ x ∷ y ∷ z ∷ []) ∷
+      instruction OpTypeVoid (2 ∷ []) ∷
+      instruction OpTypeFunction (3 ∷ 2 ∷ []) ∷
+      instruction OpFunction (2 ∷ 1 ∷ 0 ∷ 3 ∷ []) ∷
+      instruction OpLabel (4 ∷ []) ∷
+      instruction OpReturn [] ∷
+      instruction OpFunctionEnd [] ∷ [];
 }
 
 -- its words, by hand

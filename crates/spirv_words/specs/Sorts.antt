@@ -1,6 +1,8 @@
 -- The sorts of ids: what their types are, as far as instructions ask (SPIR-V specification, unified1, sections 3.52.6 to 3.52.16).
 -- A type means what its first definition in front of the function says.
-use Rattle.std.specs.Prelude.{ℕ, nat_eq, if◌then◌else◌, Bool, true, false, ◌&&◌, List, [], ◌∷◌, replicate, Option, Some, None}
+use Rattle.std.specs.Prelude.{ℕ, zero, suc, nat_eq, if◌then◌else◌, Bool, true, false, ◌&&◌, ◌||◌, List, [], ◌∷◌, length, replicate, Option, Some, None}
+use Rattle.std.specs.List.{list_all}
+use Rattle.spirv_words.specs.StorageClass.{has_events, is_own, is_given}
 use Rattle.spirv_words.specs.Operations.{Op, op_of, OpTypeVoid, OpTypeBool, OpTypeInt, OpTypeVector, OpTypeArray, OpTypeRuntimeArray, OpTypeStruct, OpTypePointer, OpTypeFunction, OpConstant}
 use Rattle.spirv_words.specs.Text.{Instr}
 use Rattle.spirv_words.specs.Ids.{definition, declared, type_of}
@@ -113,7 +115,41 @@ parts_of_sort (Array element count) = replicate count element
 parts_of_sort (Struct members) = members
 parts_of_sort s = []
 
--- two words, or a vector of words
+-- A type has values that are words, truths or composites of these: inside it is no pointer, function, void or array without a length.
+-- Types nest less deep than there are instructions.
+abbrev pub is_data_by : (ℕ → Bool) → Sort → Bool
+is_data_by inner Words = true
+is_data_by inner Truths = true
+is_data_by inner (Vector element count) = inner element
+is_data_by inner (Array element count) = inner element
+is_data_by inner (Struct members) = list_all inner members
+is_data_by inner s = false
+
+abbrev pub is_data_within : List Instr → ℕ → ℕ → Bool
+is_data_within code zero t = false
+is_data_within code (suc depth) t = is_data_by (is_data_within code depth) (sort_of code t)
+
+abbrev pub is_data_type : List Instr → ℕ → Bool
+is_data_type code t = is_data_by (is_data_within code (length code)) (sort_of code t)
+
+abbrev pub is_data : List Instr → Sort → Bool
+is_data code s = is_data_by (is_data_type code) s
+
+-- Types are compared by what they are: words and truths, and vectors of these, are each one type whatever its id. Arrays and structs of two
+-- ids are two types, which may have decorations of their own (section 2.8, Types).
+abbrev pub are_scalars : Sort → Sort → Bool
+are_scalars Words Words = true
+are_scalars Truths Truths = true
+are_scalars s u = false
+
+abbrev pub are_alike : List Instr → Sort → Sort → Bool
+are_alike code (Vector e n) (Vector f k) = nat_eq n k && (nat_eq e f || are_scalars (sort_of code e) (sort_of code f))
+are_alike code s u = are_scalars s u
+
+abbrev pub same_type : List Instr → ℕ → ℕ → Bool
+same_type code t u = nat_eq t u || are_alike code (sort_of code t) (sort_of code u)
+
+-- two words, as the instructions with two results give them
 abbrev pub are_two_words : List Instr → List ℕ → Bool
 are_two_words code (a ∷ b ∷ []) = is_words (sort_of code a) && is_words (sort_of code b)
 are_two_words code ms = false
@@ -122,10 +158,7 @@ abbrev pub is_pair : List Instr → Sort → Bool
 is_pair code (Struct members) = are_two_words code members
 is_pair code s = false
 
-abbrev pub is_vector_of_words : List Instr → Sort → Bool
-is_vector_of_words code (Vector element count) = is_words (sort_of code element)
-is_vector_of_words code s = false
-
-abbrev pub points_to_word : List Instr → Sort → Bool
-points_to_word code (Pointer class pointee) = is_words (sort_of code pointee)
-points_to_word code s = false
+-- What moves between a lane and the memory of a storage class: one word of memory that lanes share, and any value of words and truths of
+-- the lane's own memory and of what it is given. Of another class nothing moves.
+abbrev pub moves : List Instr → ℕ → Sort → Bool
+moves code class s = (has_events class && is_words s) || ((is_own class || is_given class) && is_data code s)

@@ -1,6 +1,7 @@
 -- The conditions on blocks, branches and constructs (SPIR-V specification, unified1, sections 2.4 and 2.11). I(p) is the set of the
 -- constructs whose header stands in front of block p and whose merge block stands behind it.
 use Rattle.std.specs.Prelude.{ℕ, ◌+◌, nat_eq, nat_lt, nat_le, if◌then◌else◌, Bool, true, false, ◌&&◌, ◌||◌, not, List, [], ◌∷◌, ◌++◌}
+use Rattle.std.specs.Bool.{beq}
 use Rattle.std.specs.List.{list_any, list_all}
 use Rattle.spirv_words.specs.Text.{Instr}
 use Rattle.spirv_words.specs.Blocks.{Flow, Plain, Local, Begins, Closes, Label, Merge, LoopMerge, Branch, Choose, Switch, Leave, flow_of, Edge, edges, Kind, Loop, Choice, Span, spans}
@@ -133,17 +134,13 @@ abbrev pub is_innermost : (Kind → Bool) → List Span → ℕ → Span → Boo
 is_innermost kinds all p s =
     is_around p s && (kinds s.kind && list_all (λ t. not (is_around p t && kinds t.kind) || nat_le t.header s.header) all)
 
-abbrev pub same : Bool → Bool → Bool
-same true b = b
-same false b = not b
-
 -- I(q) is I(p), and I(q) is I(p) with p itself added
 abbrev pub is_same_inside : List Span → ℕ → ℕ → Bool
-is_same_inside all p q = list_all (λ s. same (is_around q s) (is_around p s)) all
+is_same_inside all p q = list_all (λ s. beq (is_around q s) (is_around p s)) all
 
 abbrev pub enters : List Span → ℕ → ℕ → Bool
 enters all p q =
-    list_all (λ s. same (is_around q s) (is_around p s || nat_eq s.header p)) all &&
+    list_all (λ s. beq (is_around q s) (is_around p s || nat_eq s.header p)) all &&
     list_any (λ s. nat_eq s.header p && is_around q s) all
 
 abbrev pub merges_at : ℕ → Span → Bool

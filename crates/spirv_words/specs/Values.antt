@@ -7,8 +7,9 @@
 use Rattle.std.specs.Prelude.{ℕ, zero, suc, min, if◌then◌else◌, Bool, List, [], ◌∷◌, ◌++◌, map, Option, Some, None, Result, Ok, Err, option_and_then, option_map}
 use Rattle.word_base.specs.declared.event.Room.{Room}
 
--- A composite is a list of parts, each a value of any kind: `Part` puts one in front of the others, which end in `NoParts`. A pointer is
--- the place of a word: in a variable of the lane, a room, a constant buffer, the push constants or an input.
+-- A composite is a list of parts: `Part` puts one in front of the others, which end in `NoParts`. By the sorts that instructions ask, its parts
+-- are words, truths and composites. A pointer is the place of a word: in a variable of the lane, a room, a constant buffer, the push
+-- constants or an input.
 pub data Value : Type 0 where
   Word : (word : ℕ) → Value
   Truth : (truth : Bool) → Value
@@ -65,6 +66,11 @@ truth_of (Some v) = Err 1
 abbrev pub words_of_all : (ℕ → Option Value) → List ℕ → Got (List ℕ)
 words_of_all values [] = Ok []
 words_of_all values (x ∷ xs) = and_then (both (word_of (values x)) (words_of_all values xs)) (λ p. Ok (p.0 ∷ p.1))
+
+-- what is got of each one, in order
+abbrev pub all_of : {X : Type 0} → List (Got X) → Got (List X)
+all_of [] = Ok []
+all_of (x ∷ xs) = and_then (both x (all_of xs)) (λ p. Ok (p.0 ∷ p.1))
 
 abbrev pub values_of_all : (ℕ → Option Value) → List ℕ → Got (List Value)
 values_of_all values [] = Ok []

@@ -6,7 +6,7 @@ ghost use Rattle.spirv_words.specs.Smallest.{smallest};
 ghost use Rattle.spirv_words.specs.Operands.{is_sorted, is_defined};
 ghost use Rattle.spirv_words.specs.Globals.{Machine};
 ghost use Rattle.spirv_words.specs.Lane.{State, step, act_of_op};
-ghost use Rattle.spirv_words.specs.Sections.{Group, sized};
+ghost use Rattle.word_base.specs.Settings.{Axes, axes};
 ghost use Rattle.spirv_words.specs.Variables.{Wanted, nothing_wanted};
 ghost use Rattle.spirv_words.specs.Broken.{broken_in};
 ghost use Rattle.spirv_words.specs.Definitions.{has_sorts, has_single_definitions};
@@ -31,7 +31,8 @@ pub fn text_laws()
 /// What holds of a lane's steps, for the proofs of callers. It does nothing when it runs.
 #[tactic(auto, using(crate::proofs::Steps::sorted))]
 pub fn lane_laws()
-    ensures sorted { (m : Machine) (s : State) (i : Instr) → slice_get m.code s.place ≡ Some i → IsTrue (is_sorted m.code i) → IsTrue (is_defined m.code i) → step m s ≡ act_of_op m s (op_of i.op) i.operands }
+    ensures sorted { (m : Machine) (s : State) (i : Instr) → slice_get m.code s.place ≡ Some i →
+        IsTrue (is_sorted m.code i) → IsTrue (is_defined m.code i) → step m s ≡ act_of_op m s (op_of i.op) i.operands }
 {}
 
 /// What holds of modules with the form, for the proofs of callers: no instruction breaks the first
@@ -39,15 +40,20 @@ pub fn lane_laws()
 /// broken. It does nothing when it runs.
 #[tactic(auto, using(crate::proofs::Typed::sorted, crate::proofs::Typed::defined, crate::proofs::Formed::whole, crate::proofs::Formed::back))]
 pub fn form_laws()
-    ensures sorted { (code : List Instr) (k : ℕ) (i : Instr) → IsTrue (has_sorts code) → slice_get code k ≡ Some i → IsTrue (is_sorted code i) }
-    ensures defined { (bound : ℕ) (code : List Instr) (k : ℕ) (i : Instr) → IsTrue (has_single_definitions bound code) → slice_get code k ≡ Some i → IsTrue (is_defined code i) }
-    ensures whole { (version : ℕ) (group : Group) (wanted : Wanted) (m : Module) → broken_in version group wanted m ≡ [] → Form version group wanted m }
-    ensures back { (version : ℕ) (group : Group) (wanted : Wanted) (m : Module) → Form version group wanted m → broken_in version group wanted m ≡ [] }
+    ensures sorted { (code : List Instr) (k : ℕ) (i : Instr) →
+        IsTrue (has_sorts code) → slice_get code k ≡ Some i → IsTrue (is_sorted code i) }
+    ensures defined { (bound : ℕ) (code : List Instr) (k : ℕ) (i : Instr) →
+        IsTrue (has_single_definitions bound code) → slice_get code k ≡ Some i → IsTrue (is_defined code i) }
+    ensures whole { (version : ℕ) (threads : Axes) (wanted : Wanted) (m : Module) →
+        broken_in version threads wanted m ≡ [] → Form version threads wanted m }
+    ensures back { (version : ℕ) (threads : Axes) (wanted : Wanted) (m : Module) →
+        Form version threads wanted m → broken_in version threads wanted m ≡ [] }
 {}
 
 /// What holds of the smallest module, for the proofs of callers. It does nothing when it runs.
 #[tactic(auto, using(crate::proofs::Small::form))]
 pub fn smallest_laws()
-    ensures form { (version x y z : ℕ) → IsTrue (is_version version) → Form version (sized x y z) nothing_wanted (smallest version x y z) }
+    ensures form { (version x y z : ℕ) → IsTrue (is_version version) →
+        Form version (axes x y z) nothing_wanted (smallest version x y z) }
     ensures instructions { (version x y z : ℕ) → IsTrue (list_all is_instr (smallest version x y z).code) }
 {}

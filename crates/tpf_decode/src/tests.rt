@@ -51,6 +51,7 @@ const SPELLED: &[((u32, Role), &[u32], Argument)] = spelled! {
     54 Dest [0x0620_30C2, 2, 7, 0x0010_001A, 0] Indexable Mask(12), 2, 7, + Temp 0 0 1; // mov x2[r0.y + 7].zw
     54 Source [0x0420_300A, 2, 0x0002_002A] Indexable One(0), 2, 0, + ThreadId 0 0 2; // x2[vThreadID.z].x
     54 Dest [0x0000_D000] Null Bare, 0, 0; // mov null
+    54 Dest [0x0000_D001] Null Bare, 0, 0; // mov null, of one component
     54 Dest [0x0000_D0F2] Null Mask(15), 0, 0; // mov null.xyzw
     54 Dest [0x0000_DE46] Null Swizzle(0xE4), 0, 0; // mov null, with a swizzle
     54 Source [0x0002_0046] ThreadId Swizzle(4), 0, 0; // vThreadID.xyxx
@@ -75,6 +76,7 @@ const SPELLED: &[((u32, Role), &[u32], Argument)] = spelled! {
     54 Source [0x00D0_900A, 4, 0x0010_000A, 0] ImmediateConstant One(0), 0, 4, + Temp 0 0 0; // icb[r0.x + 4].x
     54 Source [0x0000_400D, 5] Immediate Bare, 0, 0, words 5 5 5 5; // l(5), of mode 3
     54 Source [0x0000_403A, 1, 2, 3, 4] Immediate Swizzle(0xE4), 0, 0, words 1 2 3 4; // l(1, 2, 3, 4), one component
+    6 Literal [0x0000_4001, 255] Immediate Bare, 0, 0, words 255 255 255 255; // case 255
     6 Literal [0x0000_4002, 9, 8, 7, 6] Immediate Swizzle(0xE4), 0, 0, words 9 8 7 6; // case 9, of four words
     169 Pair [0x0000_4001, 12] Immediate Bare, 0, 0, words 12 12 12 12; // atomic_and .., l(12), ..
     165 ViewRead [0x0010_7E46, 0] Resource Swizzle(0xE4), 0, 0; // ld_raw .., t0.xyzw
@@ -227,6 +229,7 @@ fn heads_and_opcodes(rt: HostRuntime) -> Result<(), Fail> {
     let refused = |rule, place| Err(Refusal { rule, place });
     for (words, size, want) in [
         ([0x0005_0050, 2, 0], 12, Ok(2)), // cs_5_0, and a word behind its program
+        ([0x0005_0050, 3, 0], 12, Ok(3)),
         ([0x0005_0050, 65_536, 0], 262_148, Ok(65_536)),
         ([0x0005_0040, 3, 0], 12, refused(Rule::K1, 0)), // cs_4_0
         ([0x0001_0050, 0, 0], 12, refused(Rule::K1, 0)), // vs_5_0, and before the length
