@@ -4,12 +4,12 @@ use Rattle.std.specs.Prelude.{slice_index, slice_range, if◌then◌else◌}
 use Rattle.word_base.specs.declared.rule.Rule.{Rule}
 use Rattle.word_base.specs.declared.rule.Rule.TheVariants.{K3, K4, K11, K12, K13, K14, K15}
 use Rattle.word_base.specs.declared.rule.Refusal.{Refusal}
-use Rattle.word_base.specs.Rules.{refusal, first}
+use Rattle.word_base.specs.Rules.{broken, refusal, first}
 use Rattle.tpf_decode.specs.declared.chain.Extended.TheVariants.{Opcode}
 use Rattle.tpf_decode.specs.Profiles.{Base}
 use Rattle.tpf_decode.specs.Tokens.{opcode_of, length_of, follows}
 use Rattle.tpf_decode.specs.Declarations.{is_known}
-use Rattle.tpf_decode.specs.Refusals.{StandsFrom, Test, broken, broken_at, breaks, first_rule, chain_faults, is_wrong_length, saturates, has_wrong_sync, has_wrong_flags, head_tests, head_faults, is_custom, is_custom_data}
+use Rattle.tpf_decode.specs.Refusals.{StandsFrom, Test, broken_at, breaks, first_rule, chain_faults, is_wrong_length, saturates, has_wrong_sync, has_wrong_flags, head_tests, head_faults, is_custom, is_custom_data}
 use Rattle.tpf_decode.proofs.Order.{NotBefore, NotBefore-append, behind_place, same_place, by_rule, first_of_tests, StandsFrom-append}
 use Rattle.tpf_decode.proofs.Chains.{chain_orderly}
 use Rattle.tpf_decode.proofs.Ranges.{range_cons, length-range}
@@ -24,7 +24,7 @@ chain_at : ℕ → ℕ → List ℕ → List Refusal
 chain_at at token words = chain_faults Opcode (follows token) (parts_faults (opcode_of token)) (at + 1) (take (length_of token - 1) words)
 
 later_at : ℕ → ℕ → List ℕ → List Refusal
-later_at at token words = if nat_eq (part_size (token ∷ words)) 0 then [] else body_faults (part_size (token ∷ words) - 1) (at + 1) words
+later_at at token words = if nat_eq (part_size (token ∷ words)) 0 then [] else body_faults Base (part_size (token ∷ words) - 1) (at + 1) words
 
 chain_stands : (at token : ℕ) (words : List ℕ) → StandsFrom (at + 1) (chain_at at token words)
 unfolding chain_at
@@ -34,17 +34,17 @@ later_stands : (at token : ℕ) (words : List ℕ) → StandsFrom (at + 1) (late
 unfolding later_at
 later_stands at token words = by_test (nat_eq (part_size (token ∷ words)) 0) (body_orderly (part_size (token ∷ words) - 1) (at + 1) words)
   where
-    by_test : (b : Bool) → StandsFrom (at + 1) (body_faults (part_size (token ∷ words) - 1) (at + 1) words) → StandsFrom (at + 1) (if b then [] else body_faults (part_size (token ∷ words) - 1) (at + 1) words)
+    by_test : (b : Bool) → StandsFrom (at + 1) (body_faults Base (part_size (token ∷ words) - 1) (at + 1) words) → StandsFrom (at + 1) (if b then [] else body_faults Base (part_size (token ∷ words) - 1) (at + 1) words)
     by_test true h = tt
     by_test false h = h
 
-body_custom : (at token : ℕ) (words : List ℕ) → is_custom_data token ≡ true → body_faults 0 at (token ∷ words) ≡ broken (not (is_custom token words)) K13 at ++ later_at at token words
+body_custom : (at token : ℕ) (words : List ℕ) → is_custom_data token ≡ true → body_faults Base 0 at (token ∷ words) ≡ broken (not (is_custom token words)) K13 at ++ later_at at token words
 unfolding body_faults later_at
 body_custom at token words c =
     ap (λ b. (if b then broken (not (is_custom token words)) K13 at else head_faults Base (parts_faults (opcode_of token)) at token words) ++ later_at at token words) c
 
 body_head : (at token : ℕ) (words : List ℕ) → is_custom_data token ≡ false
-    → body_faults 0 at (token ∷ words) ≡ broken_at at (head_tests Base (length words + 1) token) ++ (chain_at at token words ++ later_at at token words)
+    → body_faults Base 0 at (token ∷ words) ≡ broken_at at (head_tests Base (length words + 1) token) ++ (chain_at at token words ++ later_at at token words)
 unfolding body_faults later_at chain_at
 body_head at token words c =
     ap (λ b. (if b then broken (not (is_custom token words)) K13 at else head_faults Base (parts_faults (opcode_of token)) at token words) ++ later_at at token words) c
@@ -56,12 +56,12 @@ two_rules false true rule tests h = h
 two_rules false false rule tests h = cc
 
 -- a rule that comes early is the first from its place on
-pub early_first : (at : ℕ) (words : List ℕ) (rule : Rule) → early_rule words ≡ Some rule → first (body_faults 0 at words) ≡ Some (refusal rule at)
+pub early_first : (at : ℕ) (words : List ℕ) (rule : Rule) → early_rule words ≡ Some rule → first (body_faults Base 0 at words) ≡ Some (refusal rule at)
 early_first at [] rule h = cc
 early_first at (token ∷ words) rule h = by_test (is_custom_data token) refl h
   where
     by_test : (b : Bool) → is_custom_data token ≡ b
-        → (if b then None else first_rule (breaks (is_wrong_length (length words + 1) token) K3 ∷ breaks (not (is_known Base (opcode_of token))) K4 ∷ [])) ≡ Some rule → first (body_faults 0 at (token ∷ words)) ≡ Some (refusal rule at)
+        → (if b then None else first_rule (breaks (is_wrong_length (length words + 1) token) K3 ∷ breaks (not (is_known Base (opcode_of token))) K4 ∷ [])) ≡ Some rule → first (body_faults Base 0 at (token ∷ words)) ≡ Some (refusal rule at)
     by_test true c h = cc
     by_test false c h =
         let behind = chain_at at token words ++ later_at at token words in
@@ -86,13 +86,13 @@ tests_behind at false false c d e h k =
     (NotBefore-append (refusal K11 at) (broken e K15 at) [] (same_place K11 K15 at e refl refl (omega arith)) tt))
 
 -- without one, nothing from the place on comes before a missing word there
-pub none_early : (at : ℕ) (words : List ℕ) → early_rule words ≡ None → NotBefore (refusal K11 at) (body_faults 0 at words)
+pub none_early : (at : ℕ) (words : List ℕ) → early_rule words ≡ None → NotBefore (refusal K11 at) (body_faults Base 0 at words)
 unfolding body_faults
 none_early at [] h = tt
 none_early at (token ∷ words) h = by_test (is_custom_data token) refl h
   where
     by_test : (b : Bool) → is_custom_data token ≡ b
-        → (if b then None else first_rule (breaks (is_wrong_length (length words + 1) token) K3 ∷ breaks (not (is_known Base (opcode_of token))) K4 ∷ [])) ≡ None → NotBefore (refusal K11 at) (body_faults 0 at (token ∷ words))
+        → (if b then None else first_rule (breaks (is_wrong_length (length words + 1) token) K3 ∷ breaks (not (is_known Base (opcode_of token))) K4 ∷ [])) ≡ None → NotBefore (refusal K11 at) (body_faults Base 0 at (token ∷ words))
     by_test true c h =
         subst (NotBefore (refusal K11 at)) (sym (body_custom at token words c))
         (NotBefore-append (refusal K11 at) (broken (not (is_custom token words)) K13 at) (later_at at token words)

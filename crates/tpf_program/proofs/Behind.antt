@@ -3,7 +3,7 @@ use Rattle.std.proofs.Common.{◌≡◌, ℕ, ◌+◌, ◌-◌, ◌<◌, ◌≤�
 use Rattle.std.specs.Prelude.{slice_range, slice_index, if◌then◌else◌, not}
 use Rattle.word_base.specs.declared.rule.Rule.TheVariants.{K11, K13}
 use Rattle.word_base.specs.declared.rule.Refusal.{Refusal}
-use Rattle.word_base.specs.Rules.{first, refusal}
+use Rattle.word_base.specs.Rules.{broken, first, refusal}
 use Rattle.tpf_decode.specs.declared.argument.Argument.{Argument}
 use Rattle.tpf_decode.specs.declared.argument.Role.{Role}
 use Rattle.tpf_decode.specs.declared.extent.Extent.{Extent}
@@ -11,7 +11,7 @@ use Rattle.tpf_decode.specs.Profiles.{Base}
 use Rattle.tpf_decode.specs.Tokens.{opcode_of}
 use Rattle.tpf_decode.specs.Declarations.{layout_of, roles_at}
 use Rattle.tpf_decode.specs.Spelling.{further_words}
-use Rattle.tpf_decode.specs.Refusals.{Rest, IsOrderly, broken, no_more, behind_words, operands_faults, head_faults, faults_with, cut_faults, instruction_faults, is_custom, is_custom_data, IsExtent}
+use Rattle.tpf_decode.specs.Refusals.{Rest, IsOrderly, no_more, behind_words, operands_faults, head_faults, faults_with, cut_faults, instruction_faults, is_custom, is_custom_data, IsExtent}
 use Rattle.tpf_decode.proofs.Ranges.{range_split, range_none, range_cons, length-range}
 use Rattle.tpf_decode.proofs.Operands.{behind_missing, behind_there, words_orderly}
 use Rattle.tpf_decode.proofs.Instructions.{operands_orderly, cut_refused, cut_passed}
@@ -83,4 +83,4 @@ custom_sound words n at e h k s c none =
 
 pub tokens_passed : (words : List ℕ) (n at : ℕ) (e : Extent) → at < n → n ≤ length words → IsExtent Base words n at e → nat_eq e.code 53 ≡ false → None ≡ first (cut_faults Base at (slice_range words at n))
     → first (instruction_faults Base at (slice_range words at n)) ≡ first (parts_faults e.code e.first (slice_range words e.first e.end))
-tokens_passed words n at e h k s other none = ap first (cut_passed parts_faults words n at e h k (sym none) s other)
+tokens_passed words n at e h k s other none = ap first (cut_passed Base parts_faults words n at e h k (sym none) s other)

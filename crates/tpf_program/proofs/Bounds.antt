@@ -6,7 +6,7 @@ use Rattle.std.proofs.lemmas.List.{length-take, length-drop}
 use Rattle.word_base.specs.declared.rule.Rule.{Rule}
 use Rattle.word_base.specs.declared.rule.Rule.TheVariants.{K9, K11}
 use Rattle.word_base.specs.declared.rule.Refusal.{Refusal}
-use Rattle.word_base.specs.Rules.{order_of, refusal}
+use Rattle.word_base.specs.Rules.{broken, order_of, refusal}
 use Rattle.tpf_decode.specs.declared.argument.Kind.{Kind}
 use Rattle.tpf_decode.specs.declared.argument.Role.{Role}
 use Rattle.tpf_decode.specs.declared.chain.Extended.{Extended}
@@ -16,7 +16,7 @@ use Rattle.tpf_decode.specs.Tokens.{length_of, follows, kind_of, fixed_of, fixed
 use Rattle.tpf_decode.specs.Roles.{may_negate, is_relative}
 use Rattle.tpf_decode.specs.Declarations.{layout_of, roles_at}
 use Rattle.tpf_decode.specs.Spelling.{further_words}
-use Rattle.tpf_decode.specs.Refusals.{Rest, Test, broken, broken_at, no_more, behind_words, is_taken, rule_of, chain_faults, token_tests, place_count, relative_faults, element_faults, behind_faults, operand_faults, operands_faults, head_tests, head_faults}
+use Rattle.tpf_decode.specs.Refusals.{Rest, Test, broken_at, no_more, behind_words, is_taken, rule_of, chain_faults, token_tests, place_count, relative_faults, element_faults, behind_faults, operand_faults, operands_faults, head_tests, head_faults}
 use Rattle.tpf_decode.proofs.Order.{IsRising}
 use Rattle.tpf_decode.proofs.Chains.{phase_of}
 use Rattle.tpf_program.specs.Reading.{parts_faults}

@@ -11,13 +11,16 @@ use Rattle.word_base.specs.Settings.{Setting, HoldsWords}
 use Rattle.word_base.specs.Registers.{Registers}
 use Rattle.tpf_decode.specs.declared.argument.Argument.{Argument}
 use Rattle.tpf_program.specs.declared.instruction.Instruction.{Instruction}
-use Rattle.tpf_program.specs.Opcodes.{Meaning, meaning_of, One, Two, Three, Inserts, Pair, Swaps, LoadRaw, LoadStructured, StoreRaw, StoreStructured, Measures, Acts, Compares, Fetches, Exchanges, Allocates, Consumes, Syncs, If, Else, EndIf, Loop, EndLoop, Continue, ContinueIf, Switch, Case, Default, EndSwitch, Break, BreakIf, Return, ReturnIf, Nop}
+use Rattle.tpf_decode.specs.Profiles.{Profile}
+use Rattle.tpf_decode.specs.Opcodes.{meaning_of}
+use Rattle.tpf_decode.specs.declared.meaning.Meaning.{Meaning}
+use Rattle.tpf_decode.specs.declared.meaning.Meaning.TheVariants.{One, Two, Three, Inserts, Pair, Swaps, LoadRaw, LoadStructured, LoadTyped, StoreRaw, StoreStructured, StoreTyped, Measures, Acts, Compares, Fetches, Exchanges, Allocates, Consumes, Syncs, If, Else, EndIf, Loop, EndLoop, Continue, ContinueIf, Switch, Case, Default, EndSwitch, Break, BreakIf, Return, ReturnIf, Nop}
 use Rattle.tpf_program.specs.Program.{Shader}
 use Rattle.tpf_program.specs.Values.{Context, context, selected}
-use Rattle.tpf_program.specs.Views.{Address, AtByte, InStructure, word_at, reached, room_of, paired_at, raw_at, structured_at}
+use Rattle.tpf_program.specs.Views.{Address, AtByte, InStructure, AtWord, word_at, reached, room_of, paired_at, raw_at, structured_at, typed_at}
 use Rattle.tpf_program.specs.Writes.{has_bit, masked, written}
 use Rattle.tpf_program.specs.Plans.{parts, made, load_part, store_part, atomic, has_counter, sync, scope_of, classes_of}
-use Rattle.tpf_program.specs.Bytecode.{plan}
+use Rattle.tpf_program.specs.Bytecode.{plan, plan_by}
 use Rattle.tpf_program.specs.Holding.{HoldWords, IsOfWords, AreOfWords, IsProgramOfWords, IsEventOfWords}
 use Rattle.tpf_program.proofs.Kept.{WordsIn, value_word}
 
@@ -49,6 +52,7 @@ found_word : (extent : ℕ) (at : Address) (c : ℕ) → extent < 2 ^ 32 → IsF
 found_word extent (AtByte offset) c h = where_below (nat_lt (offset / 4 + c) extent) _ extent refl h
 found_word extent (InStructure words index offset) c h =
     where_inside (nat_lt index (extent / words)) (nat_lt (offset / 4 + c) words) extent words index (offset / 4 + c) refl refl h
+found_word extent (AtWord index) c h = where_below (nat_lt index extent) _ extent refl h
 
 -- all parts name words
 AreParts : List (Option Event) → Type 0
@@ -91,8 +95,10 @@ one_sync false controls = tt
 parts_are : (k : Context) → WordsIn k → (m : Meaning) (i : Instruction) → AreOfWords i → AreParts (parts k m i)
 parts_are k h LoadRaw i o = each_load k h i.o2 (raw_at k i.o1) (written i.o0)
 parts_are k h LoadStructured i o = each_load k h i.o3 (structured_at k i.o3 i.o1 i.o2) (written i.o0)
+parts_are k h LoadTyped i o = part (reached k i.o2 (typed_at k i.o1) 0) _ _ (found_word (k.setting.extent (room_of i.o2)) (typed_at k i.o1) 0 (h.setting.extent (room_of i.o2))) (λ w l. l) none
 parts_are k h StoreRaw i o = each_store k h i.o0 (raw_at k i.o1) i.o2 o.o2 (masked i.o0.select)
 parts_are k h StoreStructured i o = each_store k h i.o0 (structured_at k i.o0 i.o1 i.o2) i.o3 o.o3 (masked i.o0.select)
+parts_are k h StoreTyped i o = each_store k h i.o0 (typed_at k i.o1) i.o2 o.o2 (0 ∷ [])
 parts_are k h (Acts kind) i o = one_atomic k h i.o0 i.o1 kind _ 0 (value_word k h i.o2 o.o2 0) (omega arith)
 parts_are k h Compares i o = one_atomic k h i.o0 i.o1 _ _ _ (value_word k h i.o2 o.o2 0) (value_word k h i.o3 o.o3 0)
 parts_are k h (Fetches kind) i o = one_atomic k h i.o1 i.o2 kind _ 0 (value_word k h i.o3 o.o3 0) (omega arith)
@@ -131,7 +137,11 @@ made_are (None ∷ ps) h n e f = made_are ps h n e f
 made_are (Some x ∷ ps) h zero e f = let g : x ≡ e = cc in subst IsEventOfWords g h.0
 made_are (Some x ∷ ps) h (suc n) e f = made_are ps h.1 n e f
 
-pub plan_words : (p : Shader) (setting : Setting) (registers : Registers) (i : Instruction)
-    → IsProgramOfWords p → HoldsWords setting → HoldWords registers → AreOfWords i → (n : ℕ) (e : Event) → slice_get (plan p setting registers i) n ≡ Some e → IsEventOfWords e
-plan_words p setting registers i h k l o =
-    made_are _ (parts_are (context p setting registers) (record { program = h; setting = k; registers = l }) (meaning_of i.code) i o)
+planned : (k : Context) → WordsIn k → (o : Option Meaning) (i : Instruction) → AreOfWords i → (n : ℕ) (e : Event) → slice_get (plan_by k o i) n ≡ Some e → IsEventOfWords e
+planned k h None i o n e f = absurd (cc)
+planned k h (Some m) i o n e f = made_are (parts k m i) (parts_are k h m i o) n e f
+
+pub plan_words : (profile : Profile) (p : Shader) (setting : Setting) (registers : Registers) (i : Instruction)
+    → IsProgramOfWords p → HoldsWords setting → HoldWords registers → AreOfWords i → (n : ℕ) (e : Event) → slice_get (plan profile p setting registers i) n ≡ Some e → IsEventOfWords e
+plan_words profile p setting registers i h k l o =
+    planned (context p setting registers) (record { program = h; setting = k; registers = l }) (meaning_of profile i.code) i o

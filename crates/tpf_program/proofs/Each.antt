@@ -1,6 +1,6 @@
 -- A list that is gone over by its indices.
 use Rattle.std.proofs.Common.{◌≡◌, ℕ, zero, suc, ◌+◌, ◌<◌, ◌≤◌, List, [], ◌∷◌, ◌++◌, length, take, drop, length-drop, Bool, true, false, ◌&&◌, Some, refl, sym, ap, ◌∙◌, arith}
-use Rattle.std.specs.Prelude.{slice_get, nat_eq, if◌then◌else◌}
+use Rattle.std.specs.Prelude.{slice_get, nat_eq}
 use Rattle.std.specs.List.{list_all, list_any}
 use Rattle.std.proofs.lemmas.Bool.Decides.{nat_tests}
 use Rattle.std.proofs.lemmas.List.{drop_more, take_more}
@@ -8,10 +8,9 @@ use Rattle.std.proofs.lemmas.Option.{slice_get_within, get_or_from_slice_get}
 use Rattle.tpf_program.specs.declared.declaration.Declaration.{Declaration}
 use Rattle.tpf_program.specs.declared.declaration.Declared.{Declared}
 use Rattle.tpf_program.specs.declared.instruction.Instruction.{Instruction}
-use Rattle.tpf_program.specs.Extents.{shared_extent, words_declared}
 use Rattle.tpf_program.specs.Sizes.{first_size}
 use Rattle.tpf_program.specs.StraightLine.{returns}
-use Rattle.tpf_program.specs.Reading.{is_none, ends_once}
+use Rattle.tpf_program.specs.Reading.{is_nil, ends_once}
 
 pub at_index : {X : Type 0} (xs : List X) (i : ℕ) (x : X) → slice_get xs i ≡ Some x → drop i xs ≡ x ∷ drop (i + 1) xs
 at_index xs i x h = drop_more xs i x (slice_get_within xs i x h) ∙ ap (λ y. y ∷ drop (i + 1) xs) (get_or_from_slice_get xs i x x h)
@@ -79,13 +78,8 @@ size_later size ds i d h n k =
     let f : first_size size (d ∷ drop (i + 1) ds) ≡ first_size size (drop (i + 1) ds) = rw n refl in
     sym f ∙ left (first_size size) ds i d h k
 
--- the words of a slot are a first size
-pub extent_is : (slot : ℕ) (ds : List Declared) → shared_extent slot ds ≡ first_size (words_declared slot) ds
-extent_is slot [] = refl
-extent_is slot (d ∷ ds) = ap (λ n. if nat_eq (words_declared slot d.what) 0 then n else words_declared slot d.what) (extent_is slot ds)
-
 -- The last instruction is the only one that returns.
-none_is : (is : List Instruction) → nat_eq (length is) 0 ≡ is_none is
+none_is : (is : List Instruction) → nat_eq (length is) 0 ≡ is_nil is
 none_is [] = refl
 none_is (i ∷ is) = let e : nat_eq (length (i ∷ is)) 0 ≡ false = grind (arith, nat_tests) in e
 
@@ -97,7 +91,7 @@ ends_later is k i h n e =
 
 pub ends_here : (is : List Instruction) (k n : ℕ) (i : Instruction) → slice_get is k ≡ Some i → i.code ≡ 62 → n ≡ length is → ends_once (drop k is) ≡ ends_once is → nat_eq (k + 1) n ≡ ends_once is
 ends_here is k n i h r l e =
-    let f : ends_once (i ∷ drop (k + 1) is) ≡ is_none (drop (k + 1) is) = rw r refl in
+    let f : ends_once (i ∷ drop (k + 1) is) ≡ is_nil (drop (k + 1) is) = rw r refl in
     let w : k + 1 ≤ length is = omega (arith, slice_get_within is k i h) in
     let g : nat_eq (k + 1) n ≡ nat_eq (length (drop (k + 1) is)) 0 = grind (arith, nat_tests, l, w, length-drop (k + 1) is) in
     g ∙ (none_is (drop (k + 1) is) ∙ (sym f ∙ left ends_once is k i h e))

@@ -5,14 +5,14 @@ use Rattle.std.proofs.lemmas.Bool.Decides.{nat_tests}
 use Rattle.std.proofs.lemmas.List.{length-take}
 use Rattle.word_base.specs.declared.rule.Rule.TheVariants.{K1, K2, M2, K13}
 use Rattle.word_base.specs.declared.rule.Refusal.{Refusal}
-use Rattle.word_base.specs.Rules.{first}
+use Rattle.word_base.specs.Rules.{broken, first}
 use Rattle.tpf_decode.specs.Profiles.{Base}
 use Rattle.tpf_decode.specs.Tokens.{opcode_of, class_of}
 use Rattle.tpf_decode.specs.Spelling.{SpellsCustom, is_vectors}
-use Rattle.tpf_decode.specs.Refusals.{broken, head_faults, is_custom, is_custom_size, is_custom_data, header_faults, instruction_faults}
+use Rattle.tpf_decode.specs.Refusals.{head_faults, is_custom, is_custom_size, is_custom_data, header_faults, instruction_faults}
 use Rattle.tpf_decode.proofs.Ranges.{length-range}
 use Rattle.tpf_program.specs.Program.{Shader}
-use Rattle.tpf_program.specs.Spelling.{Item, Lists, Skips, SpellsItems, Spells, declarations_in, instructions_in, constants_in}
+use Rattle.tpf_program.specs.Spelling.{Item, Lists, Skips, SpellsItems, Spells, declarations_in, instructions_in, constants_in, typed_in}
 use Rattle.tpf_program.specs.Reading.{parts_faults}
 use Rattle.tpf_program.specs.Faults.{IsLate, part_size, body_faults, program_faults}
 use Rattle.tpf_program.proofs.Items.{item_some}
@@ -88,19 +88,19 @@ item_made at token words h = by_test (is_custom_data token) refl h
 -- all parts
 record HasItems (at : ℕ) (words : List ℕ) : Type 0 where
   items : List Item
-  spelled : SpellsItems at items words
+  spelled : SpellsItems Base at items words
 
-items_made : (fuel at : ℕ) (words : List ℕ) → length words ≤ fuel → AreLate (body_faults 0 at words) → HasItems at words
+items_made : (fuel at : ℕ) (words : List ℕ) → length words ≤ fuel → AreLate (body_faults Base 0 at words) → HasItems at words
 unfolding body_faults
 items_made fuel at [] l h = record { items = []; spelled = refl }
 items_made zero at (token ∷ words) l h = absurd (omega (arith, l))
 items_made (suc fuel) at (token ∷ words) l h =
     let size = part_size (token ∷ words) in
-    let s = late_split (instruction_faults Base at (token ∷ words)) (if nat_eq size 0 then [] else body_faults (size - 1) (at + 1) words) h in
+    let s = late_split (instruction_faults Base at (token ∷ words)) (if nat_eq size 0 then [] else body_faults Base (size - 1) (at + 1) words) h in
     let p = item_made at token words s.0 in
     let some = item_some at p.item p.front p.spelled in
-    let e = ap (body_faults 0 at) p.parts ∙ part_and_rest p.front p.back at some (item_size at p.item p.front p.back p.spelled) in
-    let t = late_split (instruction_faults Base at (p.front ++ p.back)) (body_faults 0 (at + length p.front) p.back) (subst AreLate e h) in
+    let e = ap (body_faults Base 0 at) p.parts ∙ part_and_rest p.front p.back at some (item_size at p.item p.front p.back p.spelled) in
+    let t = late_split (instruction_faults Base at (p.front ++ p.back)) (body_faults Base 0 (at + length p.front) p.back) (subst AreLate e h) in
     let fewer : length p.back ≤ fuel = omega (arith, l, some, ap length p.parts, length-append p.front p.back) in
     let r = items_made fuel (at + length p.front) p.back fewer t.1 in
     record { items = p.item ∷ r.items; spelled = (p.front, p.back, p.parts, p.spelled, r.spelled) }
@@ -115,19 +115,19 @@ no_head false true c h = absurd h.0
 no_head false false true h = absurd h.0
 no_head false false false h = refl
 
-pub program_found : (tokens : List ℕ) → ((r : Refusal) → Contains (program_faults tokens) r → IsLate r.rule) → (p : Shader) × Spells p tokens × (p.words ≤ 65536)
+pub program_found : (tokens : List ℕ) → ((r : Refusal) → Contains (program_faults Base tokens) r → IsLate r.rule) → (p : Shader) × Spells Base p tokens × (p.words ≤ 65536)
 unfolding program_faults
 program_found tokens h =
-    let all = late_all (program_faults tokens) h in
-    let s = late_split (header_faults tokens) (if is_some (first (header_faults tokens)) then [] else body_faults 0 2 (slice_range tokens 2 (slice_index tokens 1))) all in
+    let all = late_all (program_faults Base tokens) h in
+    let s = late_split (header_faults tokens) (if is_some (first (header_faults tokens)) then [] else body_faults Base 0 2 (slice_range tokens 2 (slice_index tokens 1))) all in
     let n = slice_index tokens 1 in
     let none = no_head (not (nat_eq (slice_index tokens 0) 0x00050050)) (nat_lt (slice_index tokens 1) 2 || nat_lt (length tokens) (slice_index tokens 1)) (nat_lt 65536 (slice_index tokens 1)) s.0 in
     let sound : None ≡ first (header_faults tokens) = sym (ap first none) in
     let k = head_told tokens n sound refl in
     let body = slice_range tokens 2 n in
-    let late : AreLate (body_faults 0 2 body) = subst AreLate (head_sound tokens n sound refl) all in
+    let late : AreLate (body_faults Base 0 2 body) = subst AreLate (head_sound tokens n sound refl) all in
     let m = items_made (length body) 2 body (omega arith) late in
-    let p : Shader = record { words = n; declarations = declarations_in m.items; constants = constants_in m.items; instructions = instructions_in m.items } in (
+    let p : Shader = record { words = n; declarations = declarations_in m.items; constants = constants_in m.items; instructions = instructions_in m.items; typed = typed_in m.items } in (
       p,
       record {
         items = m.items;
@@ -139,6 +139,7 @@ program_found tokens h =
         declarations = refl;
         instructions = refl;
         constants = refl;
+        typed = refl;
       },
       k.most,
     )

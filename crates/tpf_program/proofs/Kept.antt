@@ -9,7 +9,7 @@ use Rattle.word_base.specs.Words.{AreWords}
 use Rattle.tpf_decode.specs.declared.argument.Argument.{Argument}
 use Rattle.tpf_decode.specs.declared.argument.Kind.{Kind}
 use Rattle.tpf_decode.specs.declared.argument.Kind.TheVariants as kind
-use Rattle.tpf_program.specs.Sizes.{Addressing, Bytes, Structures, temps_of, elements_of, vectors_of}
+use Rattle.tpf_program.specs.Sizes.{Addressing, Bytes, Structures, temps_of, elements_of, vectors_of, Words}
 use Rattle.tpf_program.specs.Values.{Context, of_four, named, word_by, value, index_of, selected}
 use Rattle.tpf_program.specs.Writes.{Target, InTemp, InElement, Nowhere, with_word, with_words, writes, written, target}
 use Rattle.tpf_program.specs.Views.{room_of, addressing}
@@ -17,12 +17,12 @@ use Rattle.tpf_program.specs.Plans.{answered}
 use Rattle.tpf_program.specs.Results.{measure, measure_by}
 use Rattle.tpf_program.specs.Holding.{HoldWords, IsOfWords, IsProgramOfWords}
 
-either : (b : Bool) (x y : ℕ) → x < 2 ^ 32 → y < 2 ^ 32 → (if b then x else y) < 2 ^ 32
+pub either : (b : Bool) (x y : ℕ) → x < 2 ^ 32 → y < 2 ^ 32 → (if b then x else y) < 2 ^ 32
 either true x y h k = h
 either false x y h k = k
 
 -- one of four words
-one_of : (x y z w c : ℕ) → x < 2 ^ 32 → y < 2 ^ 32 → z < 2 ^ 32 → w < 2 ^ 32 → of_four x y z w c < 2 ^ 32
+pub one_of : (x y z w c : ℕ) → x < 2 ^ 32 → y < 2 ^ 32 → z < 2 ^ 32 → w < 2 ^ 32 → of_four x y z w c < 2 ^ 32
 one_of x y z w c h k l m = either (nat_eq c 0) _ _ h (either (nat_eq c 1) _ _ k (either (nat_eq c 2) _ _ l m))
 
 -- what a lane reads holds words
@@ -101,6 +101,7 @@ answers_are (Some e ∷ ps) (a ∷ answers) h (suc n) = answers_are ps answers (
 measured_by : (a : Addressing) → ((stride : ℕ) → a ≡ Structures stride → stride < 2 ^ 32) → (extent c : ℕ) → extent < 2 ^ 32 → measure_by a extent c < 2 ^ 32
 measured_by Bytes h extent c e = one_of _ _ _ _ c (omega arith) (omega arith) (omega arith) (omega arith)
 measured_by (Structures stride) h extent c e = one_of _ _ _ _ c (let q = div-le_self extent (stride / 4) in omega (arith, q)) (h stride refl) (omega arith) (omega arith)
+measured_by Words h extent c e = omega arith
 
 pub measure_word : (k : Context) → WordsIn k → (view : Argument) (c : ℕ) → measure k view c < 2 ^ 32
 measure_word k h view c =

@@ -1,3 +1,4 @@
+pub mod Truths
 pub mod MadeOperands
 pub mod Found
 pub mod Recovered
@@ -27,3 +28,5 @@ pub mod Carried
 pub mod Nested
 pub mod LineNests
 pub mod LineUses
+pub mod Threads
+pub mod Reached

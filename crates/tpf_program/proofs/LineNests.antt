@@ -1,25 +1,24 @@
 -- A straight line opens nothing, and ends with `ret`.
-use Rattle.std.proofs.Common.{◌≡◌, ℕ, zero, suc, ◌+◌, ◌⊎◌, inl, inr, ⊎_elim, Bool, true, false, not, ◌&&◌, ◌||◌, List, [], ◌∷◌, ◌++◌, Option, Some, None, refl, sym, ap, ◌∙◌}
-use Rattle.std.specs.Prelude.{slice_get, nat_eq, if◌then◌else◌}
+use Rattle.std.proofs.Common.{◌≡◌, ℕ, zero, suc, ◌+◌, ⊎_elim, true, false, not, ◌&&◌, ◌||◌, List, [], ◌∷◌, ◌++◌, Option, Some, None, refl, sym, ap, ◌∙◌}
+use Rattle.std.specs.Prelude.{slice_get, nat_eq, is_none, if◌then◌else◌}
 use Rattle.std.specs.List.{list_all}
 use Rattle.std.proofs.lemmas.Bool.{eqb-true}
 use Rattle.word_base.specs.declared.rule.Rule.TheVariants.{S2, S9}
 use Rattle.word_base.specs.Rules.{broken}
 use Rattle.word_base.specs.declared.arithmetic.Unary.TheVariants as one
 use Rattle.word_base.specs.declared.arithmetic.Binary.TheVariants as two
+use Rattle.tpf_decode.specs.Profiles.{Base}
+use Rattle.tpf_decode.specs.Opcodes.{meaning_of, opcode_table}
+use Rattle.tpf_decode.specs.declared.meaning.Meaning.{Meaning}
+use Rattle.tpf_decode.specs.declared.meaning.Meaning.TheVariants.{One, Two, StoreRaw, Return, Nop}
 use Rattle.tpf_program.specs.declared.declaration.Declared.{Declared}
 use Rattle.tpf_program.specs.declared.instruction.Instruction.{Instruction}
-use Rattle.tpf_program.specs.Ends.{close}
-use Rattle.tpf_program.specs.Nesting.{is_opening, is_return, is_none, is_around, reaches, means, last_in, innermost, walk_at, walk_from, open_from, where_none, last_from, nesting_refusals}
-use Rattle.tpf_program.specs.Opcodes.{Meaning, One, Two, StoreRaw, Return, Nop, meaning_of, meaning_but_return}
+use Rattle.tpf_program.specs.Ends.{close, has, means, is_opening, is_around, reaches, last_below}
+use Rattle.tpf_program.specs.Nesting.{is_return, inner, walk_at, walk_by, walk_from, open_from, where_none, last_from, nesting_refusals}
 use Rattle.tpf_program.specs.Program.{Shader}
 use Rattle.tpf_program.specs.StraightLine.{IsStraightLine, is_built_in, is_move, is_sum, is_store, is_nop, is_saturated, is_destination, is_source, returns}
 use Rattle.tpf_program.specs.Sizes.{temps_of}
-use Rattle.tpf_program.proofs.Sound.{both}
-
-pub either : (a b : Bool) → (a || b) ≡ true → (a ≡ true) ⊎ (b ≡ true)
-either true b h = inl refl
-either false b h = inr h
+use Rattle.tpf_program.proofs.Truths.{both, either}
 
 -- THE INSTRUCTIONS OF THE FORM, one by one.
 pub data LineInstruction (ds : List Declared) (i : Instruction) : Type 0 where
@@ -59,13 +58,18 @@ pub data LineMeaning (m : Meaning) : Type 0 where
   MeansSum : m ≡ Two two.Iadd → LineMeaning m
   MeansStore : m ≡ StoreRaw → LineMeaning m
 
-pub line_meaning : (ds : List Declared) (i : Instruction) → LineInstruction ds i → LineMeaning (meaning_of i.code)
-unfolding meaning_but_return
-line_meaning ds i (IsReturn c) = MeansReturn (ap meaning_of c)
-line_meaning ds i (IsNop c) = MeansNop (ap meaning_of c)
-line_meaning ds i (IsMove c d a) = MeansMove (ap meaning_of c)
-line_meaning ds i (IsSum c d a b) = MeansSum (ap meaning_of c)
-line_meaning ds i (IsStore c s) = MeansStore (ap meaning_of c)
+pub record HasMeaning (i : Instruction) : Type 0 where
+  pub meaning : Meaning
+  pub is : meaning_of Base i.code ≡ Some meaning
+  pub line : LineMeaning meaning
+
+pub line_meaning : (ds : List Declared) (i : Instruction) → LineInstruction ds i → HasMeaning i
+unfolding meaning_of opcode_table
+line_meaning ds i (IsReturn c) = record { meaning = Return; is = ap (meaning_of Base) c; line = MeansReturn refl }
+line_meaning ds i (IsNop c) = record { meaning = Nop; is = ap (meaning_of Base) c; line = MeansNop refl }
+line_meaning ds i (IsMove c d a) = record { meaning = One one.Mov; is = ap (meaning_of Base) c; line = MeansMove refl }
+line_meaning ds i (IsSum c d a b) = record { meaning = Two two.Iadd; is = ap (meaning_of Base) c; line = MeansSum refl }
+line_meaning ds i (IsStore c s) = record { meaning = StoreRaw; is = ap (meaning_of Base) c; line = MeansStore refl }
 
 -- each of these opens nothing, and breaks no rule outside of constructs
 opens_none : (m : Meaning) → LineMeaning m → is_opening m ≡ false
@@ -75,12 +79,12 @@ opens_none m (MeansMove e) = ap is_opening e
 opens_none m (MeansSum e) = ap is_opening e
 opens_none m (MeansStore e) = ap is_opening e
 
-walk_none : (code : List Instruction) (q : ℕ) (m : Meaning) (i : Instruction) → LineMeaning m → walk_at code q None m i ≡ []
-walk_none code q m i (MeansReturn e) = ap (λ m. walk_at code q None m i) e
-walk_none code q m i (MeansNop e) = ap (λ m. walk_at code q None m i) e
-walk_none code q m i (MeansMove e) = ap (λ m. walk_at code q None m i) e
-walk_none code q m i (MeansSum e) = ap (λ m. walk_at code q None m i) e
-walk_none code q m i (MeansStore e) = ap (λ m. walk_at code q None m i) e
+walk_none : (code : List Instruction) (q : ℕ) (m : Meaning) (i : Instruction) → LineMeaning m → walk_at Base code q None m i ≡ []
+walk_none code q m i (MeansReturn e) = ap (λ m. walk_at Base code q None m i) e
+walk_none code q m i (MeansNop e) = ap (λ m. walk_at Base code q None m i) e
+walk_none code q m i (MeansMove e) = ap (λ m. walk_at Base code q None m i) e
+walk_none code q m i (MeansSum e) = ap (λ m. walk_at Base code q None m i) e
+walk_none code q m i (MeansStore e) = ap (λ m. walk_at Base code q None m i) e
 
 -- A list of them.
 module _ (ds : List Declared) (code : List Instruction) (all : list_all (is_built_in ds) code ≡ true) where
@@ -92,44 +96,57 @@ module _ (ds : List Declared) (code : List Instruction) (all : list_all (is_buil
       ap (is_built_in ds) (sym k) ∙ t.0
   at_place (j ∷ is) (suc n) i h e = at_place is n i (both (is_built_in ds j) _ h).1 e
 
-  opens_at : (n : ℕ) (found : Option Instruction) → found ≡ slice_get code n → means is_opening found ≡ false
+  opens_nothing : (i : Instruction) → is_built_in ds i ≡ true → means Base is_opening i ≡ false
+  opens_nothing i h =
+      let m = line_meaning ds i (line_instruction ds i h) in
+      ap (has is_opening) m.is ∙ opens_none m.meaning m.line
+
+  opens_at : (n : ℕ) (found : Option Instruction) → found ≡ slice_get code n → has (means Base is_opening) found ≡ false
   opens_at n None e = refl
-  opens_at n (Some i) e = opens_none (meaning_of i.code) (line_meaning ds i (line_instruction ds i (at_place code n i all (sym e))))
+  opens_at n (Some i) e = opens_nothing i (at_place code n i all (sym e))
 
-  around_none : (q n : ℕ) → is_around is_opening code q n ≡ false
-  around_none q n = ap (λ b. b && reaches q (close code n)) (opens_at n (slice_get code n) refl)
+  around_none : (q n : ℕ) → is_around Base true is_opening code q n ≡ false
+  around_none q n = ap (λ b. b && reaches true q (close Base code n)) (opens_at n (slice_get code n) refl)
 
-  inside_none : (q n : ℕ) → last_in code q n ≡ None
+  inside_none : (q n : ℕ) → last_below (is_around Base true is_opening code q) n ≡ None
   inside_none q zero = refl
-  inside_none q (suc n) = ap (λ b. if b then Some n else last_in code q n) (around_none q n) ∙ inside_none q n
+  inside_none q (suc n) = ap (λ b. if b then Some n else last_below (is_around Base true is_opening code q) n) (around_none q n) ∙ inside_none q n
 
-  walks : (q : ℕ) (is : List Instruction) → list_all (is_built_in ds) is ≡ true → walk_from code q is ≡ []
+  walks_one : (q : ℕ) (i : Instruction) → is_built_in ds i ≡ true → walk_by Base code q (meaning_of Base i.code) i ≡ []
+  walks_one q i h =
+      let m = line_meaning ds i (line_instruction ds i h) in
+      ap (λ o. walk_by Base code q o i) m.is
+      ∙ (ap (λ o. walk_at Base code q o m.meaning i) (inside_none q q) ∙ walk_none code q m.meaning i m.line)
+
+  walks : (q : ℕ) (is : List Instruction) → list_all (is_built_in ds) is ≡ true → walk_from Base code q is ≡ []
   walks q [] h = refl
   walks q (i ∷ is) h =
       let t = both (is_built_in ds i) _ h in
-      ap (λ o. walk_at code q o (meaning_of i.code) i ++ walk_from code (q + 1) is) (inside_none q q)
-      ∙ (ap (λ l. l ++ walk_from code (q + 1) is) (walk_none code q (meaning_of i.code) i (line_meaning ds i (line_instruction ds i t.0)))
-      ∙ walks (q + 1) is t.1)
+      ap (λ l. l ++ walk_from Base code (q + 1) is) (walks_one q i t.0) ∙ walks (q + 1) is t.1
 
-  opens : (q : ℕ) (is : List Instruction) → list_all (is_built_in ds) is ≡ true → open_from code q is ≡ []
+  opens : (q : ℕ) (is : List Instruction) → list_all (is_built_in ds) is ≡ true → open_from Base code q is ≡ []
   opens q [] h = refl
   opens q (i ∷ is) h =
       let t = both (is_built_in ds i) _ h in
-      ap (λ b. broken (b && is_none (close code q)) S2 i.place ++ open_from code (q + 1) is) (opens_none (meaning_of i.code) (line_meaning ds i (line_instruction ds i t.0)))
+      ap (λ b. broken (b && is_none (close Base code q)) S2 i.place ++ open_from Base code (q + 1) is) (opens_nothing i t.0)
       ∙ opens (q + 1) is t.1
 
-  ends : (words q : ℕ) (before : List Instruction) (last : Instruction) → returns last ≡ true → last_from words code q (before ++ last ∷ []) ≡ []
+  returns_there : (i : Instruction) → returns i ≡ true → means Base is_return i ≡ true
+  unfolding meaning_of opcode_table
+  returns_there i h = ap (λ c. has is_return (meaning_of Base c)) (eqb-true i.code 62 h)
+
+  ends : (words q : ℕ) (before : List Instruction) (last : Instruction) → returns last ≡ true → last_from Base words code q (before ++ last ∷ []) ≡ []
   ends words q [] last h =
-      let m : is_return (meaning_of last.code) ≡ true = ap (λ c. is_return (meaning_of c)) (eqb-true last.code 62 h) in
-      ap (λ b. broken (not (b && is_none (innermost code q))) S9 last.place) m ∙ ap (λ o. broken (not (is_none o)) S9 last.place) (inside_none q q)
+      ap (λ b. broken (not (b && is_none (inner Base code q))) S9 last.place) (returns_there last h)
+      ∙ ap (λ o. broken (not (is_none o)) S9 last.place) (inside_none q q)
   ends words q (i ∷ []) last h = ends words (q + 1) [] last h
   ends words q (i ∷ j ∷ before) last h = ends words (q + 1) (j ∷ before) last h
 
-pub nests : (tokens : List ℕ) (p : Shader) → IsStraightLine tokens p → nesting_refusals p ≡ []
+pub nests : (tokens : List ℕ) (p : Shader) → IsStraightLine tokens p → nesting_refusals Base p ≡ []
 nests tokens p s =
     let code = p.instructions in
-    let w : walk_from code 0 code ≡ [] = walks p.declarations code s.instructions 0 code s.instructions in
-    let o : open_from code 0 code ≡ [] = opens p.declarations code s.instructions 0 code s.instructions in
-    let l : last_from p.words code 0 code ≡ [] = ap (last_from p.words code 0) s.end.2 ∙ ends p.declarations code s.instructions p.words 0 s.end.0 s.end.1 s.end.3 in
-    ap (λ a. (a ++ where_none a (open_from code 0 code)) ++ last_from p.words code 0 code) w
-    ∙ (ap (λ b. b ++ last_from p.words code 0 code) o ∙ l)
+    let w : walk_from Base code 0 code ≡ [] = walks p.declarations code s.instructions 0 code s.instructions in
+    let o : open_from Base code 0 code ≡ [] = opens p.declarations code s.instructions 0 code s.instructions in
+    let l : last_from Base p.words code 0 code ≡ [] = ap (last_from Base p.words code 0) s.end.2 ∙ ends p.declarations code s.instructions p.words 0 s.end.0 s.end.1 s.end.3 in
+    ap (λ a. (a ++ where_none a (open_from Base code 0 code)) ++ last_from Base p.words code 0 code) w
+    ∙ (ap (λ b. b ++ last_from Base p.words code 0 code) o ∙ l)

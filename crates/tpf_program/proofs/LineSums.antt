@@ -44,11 +44,11 @@ past_fails false false true s p q h = rw h refl
 
 -- a limit on what is taken
 within : (limit taken : ℕ) (measure : Declaration → ℕ) (before : List Declared) (what : Declaration) → sum_by (λ d. measure d.what) before ≡ taken → taken ≤ limit → measure what ≤ limit - taken
-    → first_past limit measure before what ≡ false
+    → first_past limit 0 measure before what ≡ false
 within limit taken measure before what e h k = grind (arith, nat_tests, e, h, k)
 
 past : (limit taken : ℕ) (measure : Declaration → ℕ) (before : List Declared) (what : Declaration) → sum_by (λ d. measure d.what) before ≡ taken → taken ≤ limit → limit - taken < measure what
-    → first_past limit measure before what ≡ true
+    → first_past limit 0 measure before what ≡ true
 past limit taken measure before what e h k = grind (arith, nat_tests, e, h, k)
 
 module _ (is : List Instruction) (ds : List Declared) (k bytes registers : ℕ) (d : Declared) (at : slice_get ds k ≡ Some d) (p : Passed is ds k bytes registers) where
@@ -67,19 +67,19 @@ module _ (is : List Instruction) (ds : List Declared) (k bytes registers : ℕ) 
 
   pub not_alone : stands_alone is (take k ds) d ≡ false → false ≡ are_sound_behind is [] ds
   not_alone h =
-      fails (one_fails again late (is_within d.what) (has_sizes d.what) (first_past 32768 shared_bytes (take k ds) d.what) (first_past 4096 register_count (take k ds) d.what) h)
+      fails (one_fails again late (is_within d.what) (has_sizes d.what) (first_past 32768 0 shared_bytes (take k ds) d.what) (first_past 4096 0 register_count (take k ds) d.what) h)
 
   pub past_bytes : 32768 - bytes < shared_bytes d.what → false ≡ are_sound_behind is [] ds
   past_bytes h =
       let e = past 32768 bytes shared_bytes (take k ds) d.what p.bytes_taken p.bytes_within h in
-      let both : (first_past 32768 shared_bytes (take k ds) d.what || first_past 4096 register_count (take k ds) d.what) ≡ true = rw e refl in
-      fails (past_fails again late (is_within d.what) (has_sizes d.what) (first_past 32768 shared_bytes (take k ds) d.what) (first_past 4096 register_count (take k ds) d.what) both)
+      let both : (first_past 32768 0 shared_bytes (take k ds) d.what || first_past 4096 0 register_count (take k ds) d.what) ≡ true = rw e refl in
+      fails (past_fails again late (is_within d.what) (has_sizes d.what) (first_past 32768 0 shared_bytes (take k ds) d.what) (first_past 4096 0 register_count (take k ds) d.what) both)
 
   pub past_registers : 4096 - registers < register_count d.what → false ≡ are_sound_behind is [] ds
   past_registers h =
       let e = past 4096 registers register_count (take k ds) d.what p.registers_taken p.registers_within h in
-      fails (past_fails again late (is_within d.what) (has_sizes d.what) (first_past 32768 shared_bytes (take k ds) d.what) (first_past 4096 register_count (take k ds) d.what)
-      (either (first_past 32768 shared_bytes (take k ds) d.what) (first_past 4096 register_count (take k ds) d.what) e))
+      fails (past_fails again late (is_within d.what) (has_sizes d.what) (first_past 32768 0 shared_bytes (take k ds) d.what) (first_past 4096 0 register_count (take k ds) d.what)
+      (either (first_past 32768 0 shared_bytes (take k ds) d.what) (first_past 4096 0 register_count (take k ds) d.what) e))
     where
       either : (a b : Bool) → b ≡ true → (a || b) ≡ true
       either true b e = refl
@@ -99,6 +99,6 @@ module _ (is : List Instruction) (ds : List Declared) (k bytes registers : ℕ) 
   } where
     sound : is_sound_behind is (take k ds) d ≡ true
     sound =
-        all_hold again late (is_within d.what) (has_sizes d.what) (first_past 32768 shared_bytes (take k ds) d.what) (first_past 4096 register_count (take k ds) d.what) h
+        all_hold again late (is_within d.what) (has_sizes d.what) (first_past 32768 0 shared_bytes (take k ds) d.what) (first_past 4096 0 register_count (take k ds) d.what) h
         (within 32768 bytes shared_bytes (take k ds) d.what p.bytes_taken p.bytes_within few_bytes)
         (within 4096 registers register_count (take k ds) d.what p.registers_taken p.registers_within few_registers)

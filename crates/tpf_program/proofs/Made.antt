@@ -6,7 +6,7 @@ use Rattle.std.proofs.lemmas.List.{length-take}
 use Rattle.word_base.specs.declared.rule.Rule.{Rule}
 use Rattle.word_base.specs.declared.rule.Rule.TheVariants.{K9, K11}
 use Rattle.word_base.specs.declared.rule.Refusal.{Refusal}
-use Rattle.word_base.specs.Rules.{refusal}
+use Rattle.word_base.specs.Rules.{broken, refusal}
 use Rattle.tpf_decode.specs.declared.argument.Kind.{Kind}
 use Rattle.tpf_decode.specs.declared.argument.Kind.TheVariants.{Temp, Indexable, Constant, ThreadId, GroupId, IdInGroup, FlatId}
 use Rattle.tpf_decode.specs.declared.argument.Select.{Select}
@@ -15,7 +15,7 @@ use Rattle.tpf_decode.specs.declared.argument.Relative.{Relative}
 use Rattle.tpf_decode.specs.Tokens.{kind_of, Fixed, Literal, Slot, Nothing, fixed_of, fixed_count, element_of, has_immediate, immediate_count, has_relative}
 use Rattle.tpf_decode.specs.Roles.{is_relative, is_relative_by, is_relative_type, index_count}
 use Rattle.tpf_decode.specs.Spelling.{SpellsPlace, component_of, SpellsImmediate, SpellsAddend, SpellsElement, SpellsFixed, SpellsBehind}
-use Rattle.tpf_decode.specs.Refusals.{Rest, broken, behind_words, place_count, relative_faults, element_faults, behind_faults}
+use Rattle.tpf_decode.specs.Refusals.{Rest, behind_words, place_count, relative_faults, element_faults, behind_faults}
 use Rattle.tpf_decode.proofs.Operands.{type_of_relative}
 use Rattle.tpf_program.specs.Faults.{IsLate}
 use Rattle.tpf_program.proofs.Late.{AreLate}

@@ -3,6 +3,7 @@ use Rattle.std.proofs.Common.{◌≡◌, ℕ, ◌+◌, List, [], ◌∷◌, ◌+
 use Rattle.std.specs.Prelude.{◌&&◌}
 use Rattle.std.specs.List.{list_any, list_all}
 use Rattle.word_base.specs.declared.rule.Rule.TheVariants.{K6, K7, K8}
+use Rattle.word_base.specs.Rules.{broken}
 use Rattle.tpf_decode.specs.declared.argument.Kind.{Kind}
 use Rattle.tpf_decode.specs.declared.argument.Role.{Role}
 use Rattle.tpf_decode.specs.declared.argument.Argument.{Argument}
@@ -12,7 +13,7 @@ use Rattle.tpf_decode.specs.Profiles.{Base}
 use Rattle.tpf_decode.specs.Tokens.{follows, kind_of, select_of, is_negation}
 use Rattle.tpf_decode.specs.Roles.{is_declaration, may_negate}
 use Rattle.tpf_decode.specs.Spelling.{IsChain, SpellsOperand, SpellsOperands}
-use Rattle.tpf_decode.specs.Refusals.{Rest, broken, broken_at, breaks, first_rule, is_taken, rule_of, chain_faults, selects, allows, indexes, token_tests, behind_faults, operand_faults, operands_faults}
+use Rattle.tpf_decode.specs.Refusals.{Rest, broken_at, breaks, first_rule, is_taken, rule_of, chain_faults, selects, allows, indexes, token_tests, behind_faults, operand_faults, operands_faults}
 use Rattle.tpf_decode.proofs.Wholes.{token_spelled}
 use Rattle.tpf_program.specs.Faults.{IsLate}
 use Rattle.tpf_program.proofs.Late.{AreLate}

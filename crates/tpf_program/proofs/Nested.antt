@@ -1,97 +1,172 @@
 -- Constructs are nested or apart.
-use Rattle.std.proofs.Common.{◌≡◌, ℕ, zero, suc, ◌+◌, ◌-◌, ◌<◌, ◌≤◌, ◌⊎◌, inl, inr, List, [], ◌∷◌, drop, Option, Some, refl, sym, ap, ◌∙◌, subst, arith}
-use Rattle.std.specs.Prelude.{slice_get}
+use Rattle.std.proofs.Common.{◌≡◌, ℕ, zero, suc, ◌+◌, ◌-◌, ◌<◌, ◌≤◌, ◌⊎◌, inl, inr, Bool, true, false, List, [], ◌∷◌, drop, take, length, Option, Some, None, refl, sym, ap, ◌∙◌, subst, arith}
+use Rattle.std.specs.Prelude.{slice_get, slice_range, sum_by, if◌then◌else◌}
+use Rattle.std.proofs.Math.Seq.{take-add}
 use Rattle.std.proofs.lemmas.Bool.{cases_lt}
-use Rattle.std.proofs.lemmas.List.{drop-drop}
+use Rattle.std.proofs.lemmas.Bool.Decides.{nat_tests}
+use Rattle.std.proofs.lemmas.List.Sums.{sum_by-append, sum_by-cons, sum_by_push}
+use Rattle.tpf_decode.specs.Profiles.{Profile}
+use Rattle.tpf_decode.specs.Opcodes.{meaning_of}
+use Rattle.tpf_decode.specs.declared.meaning.Meaning.{Meaning}
 use Rattle.tpf_program.specs.declared.instruction.Instruction.{Instruction}
-use Rattle.tpf_program.specs.Opcodes.{meaning_of}
-use Rattle.tpf_program.specs.Ends.{Part, Opens, Closes, Within, part_of, past, direct_in, is_close, close}
+use Rattle.tpf_program.specs.Ends.{Part, Opens, Closes, Within, part_of, opens, closes, is_opening, is_closing, has, means, least, is_even, close}
+use Rattle.tpf_program.proofs.Each.{front_more}
 
-abbrev part_at : Instruction → Part
-part_at i = part_of (meaning_of i.code)
+-- THE LEAST that a test takes
+record IsLeast (test : ℕ → Bool) (at c : ℕ) : Type 0 where
+  after : at ≤ c
+  holds : test c ≡ true
+  none : (x : ℕ) → at ≤ x → x < c → test x ≡ false
 
--- the close behind a place, out of that many constructs and the one around them
-abbrev close_in : ℕ → List Instruction → ℕ → Option ℕ
-close_in opened code at = direct_in (λ i. is_close (part_at i)) opened code at
+least_told : (test : ℕ → Bool) (at n c : ℕ) → least test at n ≡ Some c → IsLeast test at c
+least_told test at zero c h = absurd (cc)
+least_told test at (suc n) c h = by_test (test at) refl h (least_told test (at + 1) n c)
+  where
+    by_test : (b : Bool) → test at ≡ b → (if b then Some at else least test (at + 1) n) ≡ Some c → (least test (at + 1) n ≡ Some c → IsLeast test (at + 1) c) → IsLeast test at c
+    by_test true e h next =
+        let k : at ≡ c = cc in
+        record { after = omega (arith, k); holds = subst (λ x. test x ≡ true) k e; none = λ x l m. absurd (omega (arith, k, l, m)) }
+    by_test false e h next =
+        let r = next h in record {
+          after = omega (arith, r.after);
+          holds = r.holds;
+          none = λ x l m. elim (cases_lt at x) [
+            | inl b ↦ r.none x (omega (arith, b)) m
+            | inr b ↦ let k : at ≡ x = omega (arith, l, b) in subst (λ y. test y ≡ false) k e
+          ];
+        }
 
--- One instruction: the close is at the place or behind it;
-behind_by : (p : Part) (at c : ℕ) (onward : ℕ → Option ℕ) (opened : ℕ) → ((n : ℕ) → onward n ≡ Some c → at + 1 ≤ c)
-    → past p (is_close p) at onward opened ≡ Some c → at ≤ c
-behind_by Opens at c onward opened next h = let k = next (suc opened) h in omega (arith, k)
-behind_by Closes at c onward zero next h = let e : at ≡ c = cc in omega (arith, e)
-behind_by Closes at c onward (suc opened) next h = let k = next opened h in omega (arith, k)
-behind_by Within at c onward opened next h = let k = next opened h in omega (arith, k)
+-- COUNTS of the first instructions
+split : {X : Type 0} (f : X → ℕ) (xs : List X) (q y : ℕ) → q ≤ y → sum_by f (take y xs) ≡ sum_by f (take q xs) + sum_by f (slice_range xs q y)
+split f xs q y h =
+    let e : y ≡ q + (y - q) = omega arith in
+    ap (λ n. sum_by f (take n xs)) e ∙ (ap (sum_by f) (take-add q (y - q) xs) ∙ sum_by-append f (take q xs) (take (y - q) (drop q xs)))
 
--- where it is behind it, it is found from the next place on;
-onward_by : (p : Part) (at c : ℕ) (onward : ℕ → Option ℕ) (opened : ℕ) → at < c → past p (is_close p) at onward opened ≡ Some c → (n : ℕ) × (onward n ≡ Some c)
-onward_by Opens at c onward opened l h = (suc opened, h)
-onward_by Closes at c onward zero l h = let e : at ≡ c = cc in absurd (omega (arith, e))
-onward_by Closes at c onward (suc opened) l h = (opened, h)
-onward_by Within at c onward opened l h = (opened, h)
+-- one more is of one kind, of the other, or of neither
+record OneMore (a b c d : ℕ) : Type 0 where
+  first : a ≤ b
+  second : c ≤ d
+  one : b + d ≤ a + c + 1
 
--- and out of fewer constructs a close stands before that out of more.
-before_by : (p : Part) (at c d : ℕ) (onward : ℕ → Option ℕ) (few more : ℕ) → few < more → ((n : ℕ) → onward n ≡ Some c → at + 1 ≤ c)
-    → ((x y : ℕ) → x < y → onward x ≡ Some d → onward y ≡ Some c → d < c)
-    → past p (is_close p) at onward few ≡ Some d → past p (is_close p) at onward more ≡ Some c → d < c
-before_by Opens at c d onward few more l behind next h k = next (suc few) (suc more) (omega arith) h k
-before_by Closes at c d onward few zero l behind next h k = absurd (omega arith)
-before_by Closes at c d onward zero (suc more) l behind next h k = let e : at ≡ d = cc in let b = behind more k in omega (arith, e)
-before_by Closes at c d onward (suc few) (suc more) l behind next h k = next few more (omega arith) h k
-before_by Within at c d onward few more l behind next h k = next few more l h k
+one_more : {X : Type 0} (f g : X → ℕ) → ((x : X) → f x + g x ≤ 1) → (n : ℕ) (xs : List X)
+    → OneMore (sum_by f (take n xs)) (sum_by f (take (suc n) xs)) (sum_by g (take n xs)) (sum_by g (take (suc n) xs))
+one_more f g h zero [] = record { first = omega arith; second = omega arith; one = omega arith }
+one_more f g h zero (x ∷ xs) = record { first = omega arith; second = omega arith; one = omega (arith, h x) }
+one_more f g h (suc n) [] = record { first = omega arith; second = omega arith; one = omega arith }
+one_more f g h (suc n) (x ∷ xs) =
+    let r = one_more f g h n xs in
+    let a : sum_by f (take (suc n) (x ∷ xs)) ≡ f x + sum_by f (take n xs) = sum_by-cons f x (take n xs) in
+    let b : sum_by f (take (suc (suc n)) (x ∷ xs)) ≡ f x + sum_by f (take (suc n) xs) = sum_by-cons f x (take (suc n) xs) in
+    let c : sum_by g (take (suc n) (x ∷ xs)) ≡ g x + sum_by g (take n xs) = sum_by-cons g x (take n xs) in
+    let d : sum_by g (take (suc (suc n)) (x ∷ xs)) ≡ g x + sum_by g (take (suc n) xs) = sum_by-cons g x (take (suc n) xs) in
+    record { first = omega (arith, r.first, a, b); second = omega (arith, r.second, c, d); one = omega (arith, r.one, a, b, c, d) }
 
--- the same of a list of instructions
-behind : (code : List Instruction) (at c opened : ℕ) → close_in opened code at ≡ Some c → at ≤ c
-behind [] at c opened h = absurd (cc)
-behind (i ∷ rest) at c opened h = behind_by (part_at i) at c (λ n. close_in n rest (at + 1)) opened (λ n k. behind rest (at + 1) c n k) h
+one_part : (p : Part) → (if opens p then 1 else 0) + (if closes p then 1 else 0) ≤ 1
+one_part Opens = omega arith
+one_part Closes = omega arith
+one_part Within = omega arith
 
-reaches : (n : ℕ) (code : List Instruction) (at c opened : ℕ) → close_in opened code at ≡ Some c → at + n ≤ c
-    → (m : ℕ) × (close_in m (drop n code) (at + n) ≡ Some c)
-reaches zero code at c opened h l = (opened, let e : at ≡ at + 0 = omega arith in subst (λ x. close_in opened code x ≡ Some c) e h)
-reaches (suc n) [] at c opened h l = absurd (cc)
-reaches (suc n) (i ∷ rest) at c opened h l =
-    let k = onward_by (part_at i) at c (λ m. close_in m rest (at + 1)) opened (omega arith) h in
-    let r = reaches n rest (at + 1) c k.0 k.1 (omega arith) in
-    let e : at + 1 + n ≡ at + suc n = omega arith in
-    (r.0, subst (λ x. close_in r.0 (drop n rest) x ≡ Some c) e r.1)
+one_meaning : (o : Option Meaning) → (if has is_opening o then 1 else 0) + (if has is_closing o then 1 else 0) ≤ 1
+one_meaning None = omega arith
+one_meaning (Some m) = one_part (part_of m)
 
-before : (code : List Instruction) (at c d few more : ℕ) → few < more → close_in few code at ≡ Some d → close_in more code at ≡ Some c → d < c
-before [] at c d few more l h k = absurd (cc)
-before (i ∷ rest) at c d few more l h k =
-    before_by (part_at i) at c d (λ n. close_in n rest (at + 1)) few more l (λ n. behind rest (at + 1) c n) (λ x y. before rest (at + 1) c d x y) h k
+found : {X : Type 0} (test : X → Bool) (o : Option X) → has test o ≡ true → (x : X) × (o ≡ Some x) × (test x ≡ true)
+found test None h = absurd (cc)
+found test (Some x) h = (x, refl, h)
 
-from_place : (code : List Instruction) (r : ℕ) (i : Instruction) → slice_get code r ≡ Some i → drop r code ≡ i ∷ drop (r + 1) code
-from_place [] r i h = absurd (cc)
-from_place (x ∷ code) zero i h = let e : x ≡ i = cc in ap (λ y. y ∷ code) e
-from_place (x ∷ code) (suc r) i h = from_place code r i h ∙ ap (λ n. i ∷ drop n (x ∷ code)) (let e : suc (r + 1) ≡ suc r + 1 = omega arith in e)
+module _ (profile : Profile) (code : List Instruction) where
+  abbrev opening : Instruction → ℕ
+  opening i = if means profile is_opening i then 1 else 0
 
-opens_by : (p : Part) (at : ℕ) (onward : ℕ → Option ℕ) (opened : ℕ) → p ≡ Opens → past p (is_close p) at onward opened ≡ onward (suc opened)
-opens_by Opens at onward opened e = refl
-opens_by Closes at onward opened e = absurd (cc)
-opens_by Within at onward opened e = absurd (cc)
+  abbrev closing : Instruction → ℕ
+  closing i = if means profile is_closing i then 1 else 0
 
--- the close of q, looked for from an opening r before it on
-inside : (code : List Instruction) (q r c : ℕ) (i : Instruction) → q < r → slice_get code r ≡ Some i → part_at i ≡ Opens → close code q ≡ Some c → r ≤ c
-    → (m : ℕ) × (close_in (suc m) (drop (r + 1) code) (r + 1) ≡ Some c)
-inside code q r c i l here opens h b =
-    let n = r - (q + 1) in
-    let e : q + 1 + n ≡ r = omega (arith, l) in
-    let k = reaches n (drop (q + 1) code) (q + 1) c 0 h (omega (arith, e)) in
-    let at_r : close_in k.0 (drop r code) r ≡ Some c =
-    subst (λ x. close_in k.0 (drop x code) x ≡ Some c) e (subst (λ xs. close_in k.0 xs (q + 1 + n) ≡ Some c) (drop-drop n (q + 1) code) k.1) in
-    let split : close_in k.0 (i ∷ drop (r + 1) code) r ≡ Some c = subst (λ xs. close_in k.0 xs r ≡ Some c) (from_place code r i here) at_r in
-    (k.0, sym (opens_by (part_at i) r (λ m. close_in m (drop (r + 1) code) (r + 1)) k.0 opens) ∙ split)
+  abbrev o : ℕ → ℕ
+  o n = sum_by opening (take n code)
 
--- The close of an opening stands before that of an earlier place, if that is not before the opening.
-nested : (code : List Instruction) (q r c d : ℕ) (i : Instruction) → q < r → slice_get code r ≡ Some i → part_at i ≡ Opens
-    → close code q ≡ Some c → close code r ≡ Some d → r ≤ c → d < c
-nested code q r c d i l here opens h k b =
-    let m = inside code q r c i l here opens h b in
-    before (drop (r + 1) code) (r + 1) c d 0 (suc m.0) (omega arith) k m.1
+  abbrev c : ℕ → ℕ
+  c n = sum_by closing (take n code)
 
-pub closes_nest : (code : List Instruction) (q r c d : ℕ) (i : Instruction) → q < r → slice_get code r ≡ Some i → part_of (meaning_of i.code) ≡ Opens
-    → close code q ≡ Some c → close code r ≡ Some d → r < c → d < c
-closes_nest code q r c d i l here opens h k b = nested code q r c d i l here opens h k (omega (arith, b))
+  more : (n : ℕ) → OneMore (o n) (o (n + 1)) (c n) (c (n + 1))
+  more n =
+      let s : suc n ≡ n + 1 = omega arith in
+      subst (λ m. OneMore (o n) (o m) (c n) (c m)) s (one_more opening closing (λ i. one_meaning (meaning_of profile i.code)) n code)
 
-pub apart_or_nested : (code : List Instruction) (q r c d : ℕ) (i : Instruction) → q < r → slice_get code r ≡ Some i → part_of (meaning_of i.code) ≡ Opens
-    → close code q ≡ Some c → close code r ≡ Some d → (c < r) ⊎ (d < c)
-apart_or_nested code q r c d i l here opens h k = elim (cases_lt c r) [ inl b ↦ inl b | inr b ↦ inr (nested code q r c d i l here opens h k b) ]
+  -- what a close is
+  record IsClose (q e : ℕ) : Type 0 where
+    after : q < e
+    opened : o (q + 1) ≡ o q + 1
+    even : o (e + 1) + c q ≡ o q + c (e + 1)
+    none : (x : ℕ) → q < x → x < e → o (x + 1) + c q ≡ o q + c (x + 1) → ⊥
+
+  even_told : (q x : ℕ) → q < x → is_even profile code q x ≡ true → o (x + 1) + c q ≡ o q + c (x + 1)
+  even_told q x h e =
+      let k : sum_by closing (slice_range code q (x + 1)) ≡ sum_by opening (slice_range code q (x + 1)) = grind (arith, nat_tests, e) in
+      omega (arith, k, split opening code q (x + 1) (omega (arith, h)), split closing code q (x + 1) (omega (arith, h)))
+
+  uneven : (q x : ℕ) → q < x → is_even profile code q x ≡ false → o (x + 1) + c q ≡ o q + c (x + 1) → ⊥
+  uneven q x h e k =
+      let l : sum_by closing (slice_range code q (x + 1)) ≡ sum_by opening (slice_range code q (x + 1)) =
+      omega (arith, k, split opening code q (x + 1) (omega (arith, h)), split closing code q (x + 1) (omega (arith, h))) in
+      grind (arith, nat_tests, e, l)
+
+  close_told : (q e : ℕ) → close profile code q ≡ Some e → IsClose q e
+  close_told q e h = by_test (has (means profile is_opening) (slice_get code q)) refl h
+    where
+      opens_there : has (means profile is_opening) (slice_get code q) ≡ true → o (q + 1) ≡ o q + 1
+      opens_there t =
+          let f = found (means profile is_opening) (slice_get code q) t in
+          ap (sum_by opening) (front_more code q f.0 f.1) ∙ (sum_by_push opening (take q code) f.0 ∙ ap (λ b. o q + (if b then 1 else 0)) f.2)
+
+      by_test : (b : Bool) → has (means profile is_opening) (slice_get code q) ≡ b → (if b then least (is_even profile code q) (q + 1) (length code - (q + 1)) else None) ≡ Some e → IsClose q e
+      by_test true t h =
+          let r = least_told (is_even profile code q) (q + 1) (length code - (q + 1)) e h in record {
+            after = omega (arith, r.after);
+            opened = opens_there t;
+            even = even_told q e (omega (arith, r.after)) r.holds;
+            none = λ x l m. uneven q x l (r.none x (omega (arith, l)) m);
+          }
+      by_test false t h = absurd (cc)
+
+  -- Up to its close a construct is open.
+  open_until : (q e : ℕ) → IsClose q e → (k : ℕ) → q + k < e → o q + c (q + k + 1) < o (q + k + 1) + c q
+  open_until q e h zero l =
+      let s : q + zero + 1 ≡ q + 1 = omega arith in
+      subst (λ n. o q + c n < o n + c q) (sym s) (let m = more q in omega (arith, h.opened, m.second, m.one))
+  open_until q e h (suc k) l =
+      let s : q + suc k + 1 ≡ q + k + 1 + 1 = omega arith in
+      let n = h.none (q + suc k) (omega arith) l in
+      let m = more (q + k + 1) in
+      let r = open_until q e h k (omega (arith, l)) in
+      let differ : o (q + k + 1 + 1) + c q ≡ o q + c (q + k + 1 + 1) → ⊥ = subst (λ n. o n + c q ≡ o q + c n → ⊥) s n in
+      subst (λ n. o q + c n < o n + c q) (sym s) (below _ _ _ _ _ _ r m.first m.second m.one differ)
+    where
+      below : (a b x y v w : ℕ) → a + x < v + b → v ≤ w → x ≤ y → w + y ≤ v + x + 1 → (w + b ≡ a + y → ⊥) → a + y < w + b
+      below a b x y v w h k l m n = grind (arith, h, k, l, m, n)
+
+  -- The close of an opening stands before that of an earlier one, if that is not before the opening.
+  nested : (q r e d : ℕ) → q < r → IsClose q e → IsClose r d → r ≤ e → d < e
+  nested q r e d l h k b = elim (cases_lt d e) [ inl s ↦ s | inr s ↦ absurd (not_before s) ]
+    where
+      before_r : o q + c r < o r + c q
+      before_r =
+          let n : q + (r - (q + 1)) + 1 ≡ r = omega (arith, l) in
+          subst (λ x. o q + c x < o x + c q) n (open_until q e h (r - (q + 1)) (omega (arith, l, b)))
+
+      at_e : e < d → o r + c (e + 1) < o (e + 1) + c r
+      at_e m =
+          let n : r + (e - r) ≡ e = omega (arith, b) in
+          subst (λ x. o r + c (x + 1) < o (x + 1) + c r) n (open_until r d k (e - r) (omega (arith, b, m)))
+
+      not_before : e ≤ d → ⊥
+      not_before s = elim (cases_lt e d) [
+        | inl m ↦ omega (arith, at_e m, h.even, before_r)
+        | inr m ↦ let n : d ≡ e = omega (arith, s, m) in omega (arith, subst (λ x. o (x + 1) + c r ≡ o r + c (x + 1)) n k.even, h.even, before_r)
+      ]
+
+pub closes_nest : (profile : Profile) (code : List Instruction) (q r c d : ℕ) → q < r → close profile code q ≡ Some c → close profile code r ≡ Some d → r < c → d < c
+closes_nest profile code q r c d l h k b = nested profile code q r c d l (close_told profile code q c h) (close_told profile code r d k) (omega (arith, b))
+
+pub apart_or_nested : (profile : Profile) (code : List Instruction) (q r c d : ℕ) → q < r → close profile code q ≡ Some c → close profile code r ≡ Some d → (c < r) ⊎ (d < c)
+apart_or_nested profile code q r c d l h k =
+    elim (cases_lt c r) [ inl b ↦ inl b | inr b ↦ inr (nested profile code q r c d l (close_told profile code q c h) (close_told profile code r d k) b) ]

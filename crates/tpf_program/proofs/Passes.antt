@@ -4,7 +4,7 @@ use Rattle.std.specs.Prelude.{nat_lt, nat_le, if◌then◌else◌}
 use Rattle.std.proofs.lemmas.Bool.Decides.{nat_tests}
 use Rattle.word_base.specs.declared.rule.Rule.{Rule}
 use Rattle.word_base.specs.declared.rule.Rule.TheVariants.{K3, K4, K11, K12, K13, K14, K15}
-use Rattle.word_base.specs.Rules.{refusal}
+use Rattle.word_base.specs.Rules.{broken, refusal}
 use Rattle.tpf_decode.specs.declared.argument.Argument.{Argument}
 use Rattle.tpf_decode.specs.declared.chain.Extended.TheVariants.{Opcode}
 use Rattle.tpf_decode.specs.Profiles.{Base}
@@ -12,7 +12,7 @@ use Rattle.tpf_decode.specs.Tokens.{opcode_of, length_of, follows}
 use Rattle.tpf_decode.specs.Declarations.{is_known, layout_of, roles_at}
 use Rattle.tpf_decode.specs.Spelling.{SpellsCustom, further_words, is_vectors}
 use Rattle.tpf_decode.specs.Spelling as token
-use Rattle.tpf_decode.specs.Refusals.{Test, breaks, broken, broken_at, no_more, behind_words, chain_faults, is_wrong_length, saturates, has_wrong_sync, has_wrong_flags, head_faults, is_custom, is_custom_size, is_custom_data, instruction_faults}
+use Rattle.tpf_decode.specs.Refusals.{Test, breaks, broken_at, no_more, behind_words, chain_faults, is_wrong_length, saturates, has_wrong_sync, has_wrong_flags, head_faults, is_custom, is_custom_size, is_custom_data, instruction_faults}
 use Rattle.tpf_decode.proofs.Chains.{taken_pass, leads_of}
 use Rattle.tpf_program.specs.Reading.{parts_faults}
 use Rattle.tpf_program.proofs.Tables.{custom_unknown}

@@ -102,7 +102,7 @@ five (a ∷ b ∷ x ∷ y ∷ z ∷ u ∷ more) d h = absurd (omega arith)
 pub instruction_spelled : (words : List ℕ) (n at place size count : ℕ) (e : Extent) (f : Form) (places : List Argument) (d : Argument) → n ≤ length words → IsExtent Base words n at e → nat_eq e.code 53 ≡ false
     → layout_of Base e.code ≡ None → form_of Base e.code ≡ Some f → e.first ≤ place → place + 0 ≡ e.end
     → HasOperands e.code (roles_at Base e.code) places (slice_range words e.first place) → size ≡ length_of (slice_index words at) → count ≡ length (roles_of f)
-    → SpellsInstruction (record {
+    → SpellsInstruction Base (record {
       place = at;
       length = size;
       code = e.code;
@@ -141,7 +141,7 @@ named_first (a ∷ arguments) d = refl
 pub declaration_spelled : (words : List ℕ) (n at place : ℕ) (e : Extent) (layout : Layout) (places : List Argument) (d : Argument) (what : Declaration) → n ≤ length words → IsExtent Base words n at e → nat_eq e.code 53 ≡ false
     → layout_of Base e.code ≡ Some layout → e.first ≤ place → place + layout.words ≡ e.end → HasOperands e.code (roles_at Base e.code) places (slice_range words e.first place)
     → IsDeclaredBy what e.code e.controls (slice_index_or places 0 d) (slice_range words place e.end)
-    → SpellsDeclaration what (slice_range words at e.end)
+    → SpellsDeclaration Base what (slice_range words at e.end)
 declaration_spelled words n at place e layout places d what fits s other some from upto h k =
     let size : length (slice_range words place e.end) ≡ further_words (layout_of Base e.code) =
     length-range words place e.end (omega (arith, s.ends)) ∙ (omega arith ∙ ap further_words (sym some)) in

@@ -148,7 +148,7 @@ pub record HasItem (at : ℕ) (words : List ℕ) : Type 0 where
   pub front : List ℕ
   pub back : List ℕ
   pub parts : words ≡ front ++ back
-  pub spelled : SpellsItem at item front
+  pub spelled : SpellsItem Base at item front
 
 declaration_made : (at : ℕ) (words : List ℕ) (p : IsPart words) → is_some (layout_of Base p.code) ≡ true → HasItem at words
 declaration_made at words p h = record {

@@ -1,10 +1,11 @@
 -- Words spell one program.
-use Rattle.std.proofs.Common.{◌≡◌, ℕ, zero, suc, ◌+◌, ◌≤◌, List, [], ◌∷◌, ◌++◌, length, take, drop, true, false, refl, sym, ap, ◌∙◌, arith, length-append}
+use Rattle.std.proofs.Common.{◌≡◌, ℕ, zero, suc, ◌+◌, ◌≤◌, List, [], ◌∷◌, ◌++◌, length, take, drop, true, false, ◌⊎◌, inl, inr, refl, sym, ap, ◌∙◌, arith, length-append}
 use Rattle.std.specs.Prelude.{slice_index, slice_index_or, nat_eq, is_some, if◌then◌else◌}
+use Rattle.word_base.specs.declared.event.Room.{Room}
 use Rattle.tpf_decode.specs.declared.argument.Argument.{Argument}
 use Rattle.tpf_decode.specs.Profiles.{Base}
 use Rattle.tpf_decode.specs.Tokens.{opcode_of, class_of, has_flag}
-use Rattle.tpf_decode.specs.Opcodes.{form_of, row_of, opcode_table}
+use Rattle.tpf_decode.specs.Opcodes.{form_of, meaning_of, opcode_table}
 use Rattle.tpf_decode.specs.Declarations.{is_known}
 use Rattle.tpf_decode.specs.Spelling.{SpellsCustom}
 use Rattle.tpf_decode.specs.Spelling as token
@@ -15,8 +16,8 @@ use Rattle.tpf_program.specs.declared.declaration.Declaration.{Declaration}
 use Rattle.tpf_program.specs.declared.declaration.Declaration.TheVariants.{Flags, Constants, Resource, Uav, Shared, Input, Temps, Indexable, Group, ImmediateConstants}
 use Rattle.tpf_program.specs.declared.declaration.Declared.{Declared}
 use Rattle.tpf_program.specs.declared.instruction.Instruction.{Instruction}
-use Rattle.tpf_program.specs.Spelling.{nothing, nothings, named, operands, arguments, IsDeclaredBy, SpellsDeclaration, SpellsInstruction}
-use Rattle.tpf_program.proofs.Tables.{custom_unknown}
+use Rattle.tpf_program.specs.Spelling.{nothing, nothings, named, operands, arguments, IsDeclaredBy, IsTypedBy, SpellsDeclaration, SpellsTyped, SpellsInstruction}
+use Rattle.tpf_program.proofs.Tables.{custom_unknown, typed_unknown}
 
 -- lists of one length that begin alike
 pub front_same : (ws vs xs ys : List ℕ) → length ws ≡ length vs → ws ++ xs ≡ vs ++ ys → (ws ≡ vs) × (xs ≡ ys)
@@ -66,7 +67,7 @@ told_as (ImmediateConstants vectors) code controls a further h = absurd h
 
 -- no instruction has the opcode of a declaration
 formless : (what : Declaration) (code controls : ℕ) (a : Argument) (further : List ℕ) → IsDeclaredBy what code controls a further → is_some (form_of Base code) ≡ false
-unfolding form_of row_of opcode_table
+unfolding form_of meaning_of opcode_table
 formless (Flags flags) code controls a further h = rw h.0 refl
 formless (Constants slot size) code controls a further h = rw h.0 refl
 formless (Resource slot view.Raw) code controls a further h = rw h.0 refl
@@ -81,7 +82,7 @@ formless (Indexable slot count components) code controls a further h = rw h.0 re
 formless (Group x y z) code controls a further h = rw h.0 refl
 formless (ImmediateConstants vectors) code controls a further h = absurd h
 
-pub declared_same : (d e : Declared) (at : ℕ) (ws vs xs ys : List ℕ) → d.place ≡ at → e.place ≡ at → SpellsDeclaration d.what ws → SpellsDeclaration e.what vs → ws ++ xs ≡ vs ++ ys → (d ≡ e) × (xs ≡ ys)
+pub declared_same : (d e : Declared) (at : ℕ) (ws vs xs ys : List ℕ) → d.place ≡ at → e.place ≡ at → SpellsDeclaration Base d.what ws → SpellsDeclaration Base e.what vs → ws ++ xs ≡ vs ++ ys → (d ≡ e) × (xs ≡ ys)
 declared_same d e at ws vs xs ys h k a b p =
     let s = instruction_same Base a.code a.controls b.code b.controls a.arguments b.arguments a.further b.further ws vs xs ys a.spelled b.spelled p in
     let w : d.what ≡ e.what =
@@ -94,6 +95,26 @@ declared_same d e at ws vs xs ys h k a b p =
     let q : d.place ≡ e.place = h ∙ sym k in
     let f : (n : ℕ) (x : Declaration) → Declared = λ n x. record { place = n; what = x } in
     (ap (λ n. f n d.what) q ∙ ap (λ x. f e.place x) w, s.4)
+
+-- no typed view is declared in the base profile
+typed_code : (what : Declaration) (view : Room) (code controls : ℕ) (a : Argument) → IsTypedBy what view code controls a → (code ≡ 88) ⊎ (code ≡ 156)
+typed_code (Resource slot (view.Structured stride)) r code controls a h = inl h.0
+typed_code (Uav slot (view.Structured stride) coherent ordered) r code controls a h = inr h.0
+typed_code (Resource slot view.Raw) r code controls a h = absurd h
+typed_code (Uav slot view.Raw coherent ordered) r code controls a h = absurd h
+typed_code (Flags flags) r code controls a h = absurd h
+typed_code (Constants slot size) r code controls a h = absurd h
+typed_code (Shared slot kind) r code controls a h = absurd h
+typed_code (Input kind select) r code controls a h = absurd h
+typed_code (Temps count) r code controls a h = absurd h
+typed_code (Indexable slot count components) r code controls a h = absurd h
+typed_code (Group x y z) r code controls a h = absurd h
+typed_code (ImmediateConstants vectors) r code controls a h = absurd h
+
+pub no_typed : (what : Declaration) (view : Room) (words : List ℕ) → SpellsTyped Base what view words → ⊥
+no_typed what view words h =
+    let n : true ≡ false = sym h.spelled.tokens.known ∙ typed_unknown h.code (typed_code what view h.code h.controls (named h.arguments) h.declared) in
+    cc
 
 -- instructions, by their fields
 length-first : (list : List Argument) (n : ℕ) → n ≤ length list → length (take n list) ≡ n
@@ -114,7 +135,7 @@ by_fields i j p l c k n a b d e f = fields i.place i.length i.code i.controls i.
         → a ≡ j.o0 → b ≡ j.o1 → d ≡ j.o2 → e ≡ j.o3 → f ≡ j.o4 → record { place = p; length = l; code = c; controls = k; count = n; o0 = a; o1 = b; o2 = d; o3 = e; o4 = f } ≡ j
     fields p l c k n a b d e f hp hl hc hk hn ha hb hd he hf = rw (hp, hl, hc, hk, hn, ha, hb, hd, he, hf) refl
 
-pub instructions_same : (i j : Instruction) (at : ℕ) (ws vs xs ys : List ℕ) → i.place ≡ at → j.place ≡ at → SpellsInstruction i ws → SpellsInstruction j vs → ws ++ xs ≡ vs ++ ys → (i ≡ j) × (xs ≡ ys)
+pub instructions_same : (i j : Instruction) (at : ℕ) (ws vs xs ys : List ℕ) → i.place ≡ at → j.place ≡ at → SpellsInstruction Base i ws → SpellsInstruction Base j vs → ws ++ xs ≡ vs ++ ys → (i ≡ j) × (xs ≡ ys)
 instructions_same i j at ws vs xs ys h k a b p =
     let s = instruction_same Base i.code i.controls j.code j.controls (arguments i) (arguments j) [] [] ws vs xs ys a.spelled b.spelled p in
     let l : i.length ≡ j.length = a.size ∙ (same_length ws vs xs ys p s.4 ∙ sym b.size) in
@@ -148,7 +169,7 @@ no_custom code controls n left further values ws vs xs ys a b p =
     let n : true ≡ false = sym a.tokens.known ∙ (ap (is_known Base) c ∙ custom_unknown) in
     cc
 
-pub no_both : (d : Declared) (i : Instruction) (ws vs xs ys : List ℕ) → SpellsDeclaration d.what ws → SpellsInstruction i vs → ws ++ xs ≡ vs ++ ys → ⊥
+pub no_both : (d : Declared) (i : Instruction) (ws vs xs ys : List ℕ) → SpellsDeclaration Base d.what ws → SpellsInstruction Base i vs → ws ++ xs ≡ vs ++ ys → ⊥
 no_both d i ws vs xs ys a b p =
     let s = instruction_same Base a.code a.controls i.code i.controls a.arguments (arguments i) a.further [] ws vs xs ys a.spelled b.spelled p in
     let n : true ≡ false = sym b.form ∙ (ap (λ c. is_some (form_of Base c)) (sym s.0) ∙ formless d.what a.code a.controls (named a.arguments) a.further a.declared) in

@@ -10,11 +10,8 @@ use Rattle.tpf_program.specs.declared.instruction.Instruction.{Instruction}
 use Rattle.tpf_program.specs.Program.{Shader}
 use Rattle.tpf_program.specs.Declarations.{same_thing, is_past_limit, has_sizes, declares_group, refusals_at, refusals_from}
 use Rattle.tpf_program.specs.StraightLine.{is_built, is_built_in, returns, ReturnsAtEnd}
-use Rattle.tpf_program.specs.Reading.{HasForm, is_none, ends_once, is_sound_behind, are_sound_behind}
-
-pub both : (a b : Bool) → (a && b) ≡ true → (a ≡ true) × (b ≡ true)
-both true b h = (refl, h)
-both false b h = cc
+use Rattle.tpf_program.specs.Reading.{HasForm, is_nil, ends_once, is_sound_behind, are_sound_behind}
+use Rattle.tpf_program.proofs.Truths.{both}
 
 pub all_taken : {X : Type 0} (test : X → Bool) (xs : List X) (k : ℕ) → list_all test xs ≡ true → list_all test (take k xs) ≡ true
 all_taken test xs zero h = refl
@@ -24,7 +21,7 @@ all_taken test (x ∷ xs) (suc k) h =
     ap (λ b. b && list_all test (take k xs)) t.0 ∙ all_taken test xs k t.1
 
 -- One return, at the end.
-none_is : (is : List Instruction) → is_none is ≡ true → is ≡ []
+none_is : (is : List Instruction) → is_nil is ≡ true → is ≡ []
 none_is [] h = refl
 none_is (i ∷ is) h = cc
 
@@ -32,7 +29,7 @@ pub ends_told : (is : List Instruction) → ends_once is ≡ true → ReturnsAtE
 ends_told [] h = cc
 ends_told (i ∷ rest) h = by_test (returns i) refl h (ends_told rest)
   where
-    by_test : (b : Bool) → b ≡ returns i → (if b then is_none rest else ends_once rest) ≡ true → (ends_once rest ≡ true → ReturnsAtEnd rest) → ReturnsAtEnd (i ∷ rest)
+    by_test : (b : Bool) → b ≡ returns i → (if b then is_nil rest else ends_once rest) ≡ true → (ends_once rest ≡ true → ReturnsAtEnd rest) → ReturnsAtEnd (i ∷ rest)
     by_test true e h k = ([], i, ap (λ l. i ∷ l) (none_is rest h), sym e, refl)
     by_test false e h k =
         let r = k h in
@@ -43,7 +40,7 @@ ends_found [] last h k = ap (λ b. if b then true else false) h
 ends_found (i ∷ before) last h k =
     let t = both (not (returns i)) (list_all (λ i. not (returns i)) before) k in
     let n : returns i ≡ false = not_true (returns i) t.0 in
-    ap (λ b. if b then is_none (before ++ last ∷ []) else ends_once (before ++ last ∷ [])) n ∙ ends_found before last h t.1
+    ap (λ b. if b then is_nil (before ++ last ∷ []) else ends_once (before ++ last ∷ [])) n ∙ ends_found before last h t.1
   where
     not_true : (b : Bool) → not b ≡ true → b ≡ false
     not_true true h = cc
@@ -63,24 +60,24 @@ four false false false true n = (λ h. refl, λ h. refl)
 four false false false false n = (λ h. cc, λ h. cc)
 
 one_sound : (p : Shader) (before : List Declared) (d : Declared)
-    → (is_sound_behind p.instructions before d ≡ true → refusals_at p before d ≡ []) × (refusals_at p before d ≡ [] → is_sound_behind p.instructions before d ≡ true)
+    → (is_sound_behind p.instructions before d ≡ true → refusals_at 0 p before d ≡ []) × (refusals_at 0 p before d ≡ [] → is_sound_behind p.instructions before d ≡ true)
 one_sound p before d =
-    four (list_any (λ e. same_thing e.what d.what) before) (list_any (λ i. nat_lt i.place d.place) p.instructions) (is_past_limit before d.what) (has_sizes d.what) d.place
+    four (list_any (λ e. same_thing e.what d.what) before) (list_any (λ i. nat_lt i.place d.place) p.instructions) (is_past_limit 0 before d.what) (has_sizes d.what) d.place
 
 nothing_joined : (a b : List Refusal) → a ++ b ≡ [] → (a ≡ []) × (b ≡ [])
 nothing_joined [] b e = (refl, e)
 nothing_joined (x ∷ a) b e = absurd (cc)
 
-sound_told : (p : Shader) (before rest : List Declared) → are_sound_behind p.instructions before rest ≡ true → refusals_from p before rest ≡ []
+sound_told : (p : Shader) (before rest : List Declared) → are_sound_behind p.instructions before rest ≡ true → refusals_from 0 p before rest ≡ []
 sound_told p before [] s = refl
 sound_told p before (d ∷ rest) s =
     let u = both (is_sound_behind p.instructions before d) (are_sound_behind p.instructions (before ++ d ∷ []) rest) s in
-    ap (λ l. l ++ refusals_from p (before ++ d ∷ []) rest) ((one_sound p before d).0 u.0) ∙ sound_told p (before ++ d ∷ []) rest u.1
+    ap (λ l. l ++ refusals_from 0 p (before ++ d ∷ []) rest) ((one_sound p before d).0 u.0) ∙ sound_told p (before ++ d ∷ []) rest u.1
 
-sound_from : (p : Shader) (before rest : List Declared) → refusals_from p before rest ≡ [] → are_sound_behind p.instructions before rest ≡ true
+sound_from : (p : Shader) (before rest : List Declared) → refusals_from 0 p before rest ≡ [] → are_sound_behind p.instructions before rest ≡ true
 sound_from p before [] s = refl
 sound_from p before (d ∷ rest) s =
-    let u = nothing_joined (refusals_at p before d) (refusals_from p (before ++ d ∷ []) rest) s in
+    let u = nothing_joined (refusals_at 0 p before d) (refusals_from 0 p (before ++ d ∷ []) rest) s in
     ap (λ b. b && are_sound_behind p.instructions (before ++ d ∷ []) rest) ((one_sound p before d).1 u.0) ∙ sound_from p (before ++ d ∷ []) rest u.1
 
 group_there : (t : Bool) (n : ℕ) → broken (not t) L4 n ≡ [] → t ≡ true
@@ -100,5 +97,5 @@ form_told p a b c d e = record {
 
 pub form_sound : (p : Shader) → HasForm p → (are_sound_behind p.instructions [] p.declarations ≡ true) × (list_any (λ d. declares_group d.what) p.declarations ≡ true)
 form_sound p f =
-    let t = nothing_joined (refusals_from p [] p.declarations) (broken (not (list_any (λ d. declares_group d.what) p.declarations)) L4 p.words) f.sound in
+    let t = nothing_joined (refusals_from 0 p [] p.declarations) (broken (not (list_any (λ d. declares_group d.what) p.declarations)) L4 p.words) f.sound in
     (sound_from p [] p.declarations t.0, group_there (list_any (λ d. declares_group d.what) p.declarations) p.words t.1)

@@ -5,13 +5,13 @@ use Rattle.std.proofs.lemmas.Bool.Decides.{nat_tests}
 use Rattle.word_base.specs.declared.rule.Rule.{Rule}
 use Rattle.word_base.specs.declared.rule.Rule.TheVariants.{K3, K4, K11, K12, K13, K14, K15}
 use Rattle.word_base.specs.declared.rule.Refusal.{Refusal}
-use Rattle.word_base.specs.Rules.{refusal, first, comes_before}
+use Rattle.word_base.specs.Rules.{broken, refusal, first, comes_before}
 use Rattle.word_base.proofs.Least as least
 use Rattle.tpf_decode.specs.declared.chain.Extended.TheVariants.{Opcode}
 use Rattle.tpf_decode.specs.Profiles.{Base}
 use Rattle.tpf_decode.specs.Tokens.{opcode_of, length_of, follows}
 use Rattle.tpf_decode.specs.Declarations.{is_known}
-use Rattle.tpf_decode.specs.Refusals.{broken, breaks, first_rule, chain_faults, is_wrong_length, saturates, has_wrong_sync, has_wrong_flags, head_tests, head_faults, is_custom, is_custom_data, instruction_faults}
+use Rattle.tpf_decode.specs.Refusals.{breaks, first_rule, chain_faults, is_wrong_length, saturates, has_wrong_sync, has_wrong_flags, head_tests, head_faults, is_custom, is_custom_data, instruction_faults}
 use Rattle.tpf_decode.proofs.Order.{NotBefore, behind_place, by_rule, first_of_tests, stands_earlier}
 use Rattle.tpf_decode.proofs.Chains.{chain_orderly}
 use Rattle.tpf_decode.proofs.Ranges.{range_split, range_cons, range_none, length-range}
@@ -86,48 +86,48 @@ stopped_there words at n r h k f =
 
 -- the part and those behind it, where it has a length
 parts_there : (words : List ℕ) (at n : ℕ) (r : Refusal) → n ≤ length words → at < n → HasLength at (slice_range words at n) (slice_index words at) r
-    → body_faults 0 at (slice_range words at n) ≡ instruction_faults Base at (slice_range words at n) ++ body_faults 0 (at + length_of (slice_index words at)) (slice_range words (at + length_of (slice_index words at)) n)
+    → body_faults Base 0 at (slice_range words at n) ≡ instruction_faults Base at (slice_range words at n) ++ body_faults Base 0 (at + length_of (slice_index words at)) (slice_range words (at + length_of (slice_index words at)) n)
 parts_there words at n r k h l =
     let end = at + length_of (slice_index words at) in
     let within : end ≤ n = omega (arith, l.fits, length-range words at n k) in
     let e = range_split words at end n (omega arith) within in
     let m : length (slice_range words at end) ≡ length_of (slice_index words at) = omega (arith, length-range words at end (omega arith)) in
     let s : part_size (slice_range words at end ++ slice_range words end n) ≡ length (slice_range words at end) = ap part_size (sym e) ∙ (l.size ∙ sym m) in
-    ap (body_faults 0 at) e
+    ap (body_faults Base 0 at) e
     ∙ (part_and_rest (slice_range words at end) (slice_range words end n) at (omega (arith, m, l.some)) s
-    ∙ (ap (λ x. instruction_faults Base at x ++ body_faults 0 (at + length (slice_range words at end)) (slice_range words end n)) (sym e)
-    ∙ ap (λ x. instruction_faults Base at (slice_range words at n) ++ body_faults 0 (at + x) (slice_range words end n)) m))
+    ∙ (ap (λ x. instruction_faults Base at x ++ body_faults Base 0 (at + length (slice_range words at end)) (slice_range words end n)) (sym e)
+    ∙ ap (λ x. instruction_faults Base at (slice_range words at n) ++ body_faults Base 0 (at + x) (slice_range words end n)) m))
 
 -- the refusal of the part stays the first
 pub stays_first : (words : List ℕ) (at n : ℕ) (r : Refusal) → at < n → n ≤ length words → Some r ≡ first (instruction_faults Base at (slice_range words at n))
     → (r.place ≡ at + length_of (slice_index words at) → at + length_of (slice_index words at) < n → early_rule (slice_range words (at + length_of (slice_index words at)) n) ≡ None)
-    → first (body_faults 0 at (slice_range words at n)) ≡ Some r
+    → first (body_faults Base 0 at (slice_range words at n)) ≡ Some r
 unfolding body_faults
 stays_first words at n r h k f early = by_kind (stopped_there words at n r h k (sym f))
   where
     end : ℕ
     end = at + length_of (slice_index words at)
 
-    behind : IsWithin end r → end ≤ n → NotBefore r (body_faults 0 end (slice_range words end n))
+    behind : IsWithin end r → end ≤ n → NotBefore r (body_faults Base 0 end (slice_range words end n))
     behind (phase, inl before) m =
-        behind_place r.rule r.place (body_faults 0 end (slice_range words end n)) phase
-        (stands_earlier (r.place + 1) end (body_faults 0 end (slice_range words end n)) (omega (arith, before)) (body_orderly 0 end (slice_range words end n)))
+        behind_place r.rule r.place (body_faults Base 0 end (slice_range words end n)) phase
+        (stands_earlier (r.place + 1) end (body_faults Base 0 end (slice_range words end n)) (omega (arith, before)) (body_orderly 0 end (slice_range words end n)))
     behind (phase, inr (place, rule)) m = by_end (nat_eq end n) refl
       where
-        by_end : (b : Bool) → b ≡ nat_eq end n → NotBefore r (body_faults 0 end (slice_range words end n))
+        by_end : (b : Bool) → b ≡ nat_eq end n → NotBefore r (body_faults Base 0 end (slice_range words end n))
         by_end true e =
             let q : end ≡ n = grind (arith, nat_tests) in
-            subst (λ m. NotBefore r (body_faults 0 end (slice_range words end m))) q (subst (λ l. NotBefore r (body_faults 0 end l)) (sym (range_none words end)) tt)
+            subst (λ m. NotBefore r (body_faults Base 0 end (slice_range words end m))) q (subst (λ l. NotBefore r (body_faults Base 0 end l)) (sym (range_none words end)) tt)
         by_end false e =
             let q : end < n = grind (arith, nat_tests) in
             let s : refusal K11 end ≡ r = ap (λ x. refusal x end) (sym rule) ∙ ap (λ x. refusal r.rule x) (sym place) in
-            subst (λ x. NotBefore x (body_faults 0 end (slice_range words end n))) s (none_early end (slice_range words end n) (early place q))
+            subst (λ x. NotBefore x (body_faults Base 0 end (slice_range words end n))) s (none_early end (slice_range words end n) (early place q))
 
-    by_kind : ((part_size (slice_range words at n) ≡ 0) × (r.place ≡ at)) ⊎ HasLength at (slice_range words at n) (slice_index words at) r → first (body_faults 0 at (slice_range words at n)) ≡ Some r
+    by_kind : ((part_size (slice_range words at n) ≡ 0) × (r.place ≡ at)) ⊎ HasLength at (slice_range words at n) (slice_index words at) r → first (body_faults Base 0 at (slice_range words at n)) ≡ Some r
     by_kind (inl z) = ap first (part_alone (slice_range words at n) at z.0) ∙ sym f
     by_kind (inr l) =
         ap first (parts_there words at n r k h l)
-        ∙ front_first (instruction_faults Base at (slice_range words at n)) (body_faults 0 end (slice_range words end n)) r (sym f) (behind l.within (omega (arith, l.fits, length-range words at n k)))
+        ∙ front_first (instruction_faults Base at (slice_range words at n)) (body_faults Base 0 end (slice_range words end n)) r (sym f) (behind l.within (omega (arith, l.fits, length-range words at n k)))
 
 rules_early : (a b : Bool) (rule : Rule) → first_rule (breaks a K3 ∷ breaks b K4 ∷ []) ≡ Some rule → (rule ≡ K3) ⊎ (rule ≡ K4)
 rules_early true b rule h = let e : K3 ≡ rule = cc in inl (sym e)
@@ -151,7 +151,7 @@ fourth_before end = grind (arith, nat_tests)
 -- a rule of the next token comes before a missing word
 pub next_first : (words : List ℕ) (at n : ℕ) (r : Refusal) (rule : Rule) → at < n → n ≤ length words → Some r ≡ first (instruction_faults Base at (slice_range words at n))
     → r.place ≡ at + length_of (slice_index words at) → early_rule (slice_range words (at + length_of (slice_index words at)) n) ≡ Some rule
-    → first (body_faults 0 at (slice_range words at n)) ≡ Some (refusal rule (at + length_of (slice_index words at)))
+    → first (body_faults Base 0 at (slice_range words at n)) ≡ Some (refusal rule (at + length_of (slice_index words at)))
 next_first words at n r rule h k f place early = by_kind (stopped_there words at n r h k (sym f))
   where
     end : ℕ
@@ -165,11 +165,11 @@ next_first words at n r rule h k f place early = by_kind (stopped_there words at
     missing (phase, inl before) = absurd (omega (arith, before, place))
     missing (phase, inr (there, rule)) = ap (λ x. refusal x r.place) rule ∙ ap (λ x. refusal K11 x) there
 
-    by_kind : ((part_size (slice_range words at n) ≡ 0) × (r.place ≡ at)) ⊎ HasLength at (slice_range words at n) (slice_index words at) r → first (body_faults 0 at (slice_range words at n)) ≡ Some (refusal rule end)
+    by_kind : ((part_size (slice_range words at n) ≡ 0) × (r.place ≡ at)) ⊎ HasLength at (slice_range words at n) (slice_index words at) r → first (body_faults Base 0 at (slice_range words at n)) ≡ Some (refusal rule end)
     by_kind (inl z) =
         let e : end ≡ at = sym place ∙ z.1 in
         early_first at (slice_range words at n) rule (subst (λ m. early_rule (slice_range words m n) ≡ Some rule) e early) ∙ ap (λ x. Some (refusal rule x)) (sym e)
     by_kind (inr l) =
         ap first (parts_there words at n r k h l)
-        ∙ rest_first (instruction_faults Base at (slice_range words at n)) (body_faults 0 end (slice_range words end n)) r (refusal rule end) (sym f) (early_first end (slice_range words end n) rule early)
+        ∙ rest_first (instruction_faults Base at (slice_range words at n)) (body_faults Base 0 end (slice_range words end n)) r (refusal rule end) (sym f) (early_first end (slice_range words end n) rule early)
         (ap (comes_before (refusal rule end)) (missing l.within) ∙ before (early_is (slice_range words end n) rule early))

@@ -11,7 +11,7 @@ use Rattle.tpf_decode.proofs.Ranges.{range_split, range_none, range_one, length-
 use Rattle.tpf_program.specs.declared.declaration.Declared.{Declared}
 use Rattle.tpf_program.specs.declared.instruction.Instruction.{Instruction}
 use Rattle.tpf_program.specs.Program.{Shader}
-use Rattle.tpf_program.specs.Spelling.{Item, Declares, Does, Lists, Skips, SpellsItem, SpellsItems, Spells, listed, declarations_in, instructions_in, constants_in}
+use Rattle.tpf_program.specs.Spelling.{Item, Declares, Types, Does, Lists, Skips, SpellsItem, SpellsItems, Spells, listed, declarations_in, instructions_in, constants_in, typed_in}
 use Rattle.tpf_program.specs.Faults.{body_faults, program_faults}
 use Rattle.tpf_program.specs.Reading.{IsReadTo}
 use Rattle.tpf_program.proofs.Reach.{none_first, part_passed}
@@ -23,24 +23,25 @@ pub record IsWalked (words : List ℕ) (n at : ℕ) (p : Shader) : Type 0 where
   pub read : IsReadTo words at p
 
 -- one part more
-items_more : (at : ℕ) (items : List Item) (x : Item) (front back : List ℕ) → SpellsItems at items front → SpellsItem (at + length front) x back → SpellsItems at (items ++ x ∷ []) (front ++ back)
+items_more : (at : ℕ) (items : List Item) (x : Item) (front back : List ℕ) → SpellsItems Base at items front → SpellsItem Base (at + length front) x back → SpellsItems Base at (items ++ x ∷ []) (front ++ back)
 items_more at [] x front back h k =
     let e : at + length front ≡ at = omega (arith, ap length h) in
-    (back, [], ap (λ l. l ++ back) h ∙ sym (append-nil back), subst (λ n. SpellsItem n x back) e k, refl)
+    (back, [], ap (λ l. l ++ back) h ∙ sym (append-nil back), subst (λ n. SpellsItem Base n x back) e k, refl)
 items_more at (y ∷ items) x front back h k =
     let e : at + length front ≡ at + length h.0 + length h.1 = omega (arith, ap length h.2, length-append h.0 h.1) in
-    (h.0, h.1 ++ back, ap (λ l. l ++ back) h.2 ∙ append_assoc h.0 h.1 back, h.3, items_more (at + length h.0) items x h.1 back h.4 (subst (λ n. SpellsItem n x back) e k))
+    (h.0, h.1 ++ back, ap (λ l. l ++ back) h.2 ∙ append_assoc h.0 h.1 back, h.3, items_more (at + length h.0) items x h.1 back h.4 (subst (λ n. SpellsItem Base n x back) e k))
 
-range_more : (words : List ℕ) (at end : ℕ) (items : List Item) (x : Item) → 2 ≤ at → at ≤ end → end ≤ length words → SpellsItems 2 items (slice_range words 2 at) → SpellsItem at x (slice_range words at end)
-    → SpellsItems 2 (items ++ x ∷ []) (slice_range words 2 end)
+range_more : (words : List ℕ) (at end : ℕ) (items : List Item) (x : Item) → 2 ≤ at → at ≤ end → end ≤ length words → SpellsItems Base 2 items (slice_range words 2 at) → SpellsItem Base at x (slice_range words at end)
+    → SpellsItems Base 2 (items ++ x ∷ []) (slice_range words 2 end)
 range_more words at end items x h k fits s t =
     let e : at ≡ 2 + length (slice_range words 2 at) = omega (arith, length-range words 2 at (omega arith)) in
-    subst (λ l. SpellsItems 2 (items ++ x ∷ []) l) (sym (range_split words 2 at end h k))
-    (items_more 2 items x (slice_range words 2 at) (slice_range words at end) s (subst (λ n. SpellsItem n x (slice_range words at end)) e t))
+    subst (λ l. SpellsItems Base 2 (items ++ x ∷ []) l) (sym (range_split words 2 at end h k))
+    (items_more 2 items x (slice_range words 2 at) (slice_range words at end) s (subst (λ n. SpellsItem Base n x (slice_range words at end)) e t))
 
 declarations_joined : (xs ys : List Item) → declarations_in (xs ++ ys) ≡ declarations_in xs ++ declarations_in ys
 declarations_joined [] ys = refl
 declarations_joined (Declares d ∷ xs) ys = ap (λ l. d ∷ l) (declarations_joined xs ys)
+declarations_joined (Types d view ∷ xs) ys = ap (λ l. d ∷ l) (declarations_joined xs ys)
 declarations_joined (Does i ∷ xs) ys = declarations_joined xs ys
 declarations_joined (Lists place values ∷ xs) ys = ap (λ l. listed place values ∷ l) (declarations_joined xs ys)
 declarations_joined (Skips kind values ∷ xs) ys = declarations_joined xs ys
@@ -48,6 +49,7 @@ declarations_joined (Skips kind values ∷ xs) ys = declarations_joined xs ys
 instructions_joined : (xs ys : List Item) → instructions_in (xs ++ ys) ≡ instructions_in xs ++ instructions_in ys
 instructions_joined [] ys = refl
 instructions_joined (Declares d ∷ xs) ys = instructions_joined xs ys
+instructions_joined (Types d view ∷ xs) ys = instructions_joined xs ys
 instructions_joined (Does i ∷ xs) ys = ap (λ l. i ∷ l) (instructions_joined xs ys)
 instructions_joined (Lists place values ∷ xs) ys = instructions_joined xs ys
 instructions_joined (Skips kind values ∷ xs) ys = instructions_joined xs ys
@@ -55,9 +57,18 @@ instructions_joined (Skips kind values ∷ xs) ys = instructions_joined xs ys
 constants_joined : (xs ys : List Item) → constants_in (xs ++ ys) ≡ constants_in xs ++ constants_in ys
 constants_joined [] ys = refl
 constants_joined (Declares d ∷ xs) ys = constants_joined xs ys
+constants_joined (Types d view ∷ xs) ys = constants_joined xs ys
 constants_joined (Does i ∷ xs) ys = constants_joined xs ys
 constants_joined (Lists place values ∷ xs) ys = ap (λ l. values ++ l) (constants_joined xs ys) ∙ sym (append_assoc values (constants_in xs) (constants_in ys))
 constants_joined (Skips kind values ∷ xs) ys = constants_joined xs ys
+
+typed_joined : (xs ys : List Item) → typed_in (xs ++ ys) ≡ typed_in xs ++ typed_in ys
+typed_joined [] ys = refl
+typed_joined (Declares d ∷ xs) ys = typed_joined xs ys
+typed_joined (Types d view ∷ xs) ys = ap (λ l. view ∷ l) (typed_joined xs ys)
+typed_joined (Does i ∷ xs) ys = typed_joined xs ys
+typed_joined (Lists place values ∷ xs) ys = typed_joined xs ys
+typed_joined (Skips kind values ∷ xs) ys = typed_joined xs ys
 
 -- what a part adds to a program
 pub record Adds (x : Item) (p q : Shader) : Type 0 where
@@ -65,6 +76,7 @@ pub record Adds (x : Item) (p q : Shader) : Type 0 where
   pub declarations : q.declarations ≡ p.declarations ++ declarations_in (x ∷ [])
   pub instructions : q.instructions ≡ p.instructions ++ instructions_in (x ∷ [])
   pub constants : q.constants ≡ p.constants ++ constants_in (x ∷ [])
+  pub typed : q.typed ≡ p.typed ++ typed_in (x ∷ [])
 
 few : (xs ys zs : List Declared) (at end : ℕ) → ys ≡ xs ++ zs → length xs ≤ at → length zs ≤ 1 → at < end → length ys ≤ end
 few xs ys zs at end e h k l = omega (arith, ap length e, length-append xs zs)
@@ -77,24 +89,27 @@ few_constants xs ys zs at end e h k = omega (arith, ap length e, length-append x
 
 one_declared : (x : Item) → length (declarations_in (x ∷ [])) ≤ 1
 one_declared (Declares d) = omega arith
+one_declared (Types d view) = omega arith
 one_declared (Does i) = omega arith
 one_declared (Lists place values) = omega arith
 one_declared (Skips kind values) = omega arith
 
 one_instruction : (x : Item) → length (instructions_in (x ∷ [])) ≤ 1
 one_instruction (Declares d) = omega arith
+one_instruction (Types d view) = omega arith
 one_instruction (Does i) = omega arith
 one_instruction (Lists place values) = omega arith
 one_instruction (Skips kind values) = omega arith
 
 -- the words of a buffer are fewer than its own
-few_words : (x : Item) (at : ℕ) (words : List ℕ) → SpellsItem at x words → length (constants_in (x ∷ [])) ≤ length words
+few_words : (x : Item) (at : ℕ) (words : List ℕ) → SpellsItem Base at x words → length (constants_in (x ∷ [])) ≤ length words
 few_words (Declares d) at words h = omega arith
+few_words (Types d view) at words h = omega arith
 few_words (Does i) at words h = omega arith
 few_words (Skips kind values) at words h = omega arith
 few_words (Lists place values) at words h = omega (arith, ap length h.1.parts, ap length (append-nil values))
 
-pub part_read : (words : List ℕ) (at end : ℕ) (x : Item) (p q : Shader) → 2 ≤ at → at < end → end ≤ length words → IsReadTo words at p → SpellsItem at x (slice_range words at end) → Adds x p q
+pub part_read : (words : List ℕ) (at end : ℕ) (x : Item) (p q : Shader) → 2 ≤ at → at < end → end ≤ length words → IsReadTo words at p → SpellsItem Base at x (slice_range words at end) → Adds x p q
     → end ≤ p.words → p.words ≤ length words → None ≡ first (instruction_faults Base at (slice_range words at p.words)) → IsReadTo words end q
 part_read words at end x p q h k fits r s a inside most none = record {
   items = r.items ++ x ∷ [];
@@ -102,15 +117,16 @@ part_read words at end x p q h k fits r s a inside most none = record {
   declarations = a.declarations ∙ (ap (λ l. l ++ declarations_in (x ∷ [])) r.declarations ∙ sym (declarations_joined r.items (x ∷ [])));
   instructions = a.instructions ∙ (ap (λ l. l ++ instructions_in (x ∷ [])) r.instructions ∙ sym (instructions_joined r.items (x ∷ [])));
   constants = a.constants ∙ (ap (λ l. l ++ constants_in (x ∷ [])) r.constants ∙ sym (constants_joined r.items (x ∷ [])));
+  typed = a.typed ∙ (ap (λ l. l ++ typed_in (x ∷ [])) r.typed ∙ sym (typed_joined r.items (x ∷ [])));
   few_declarations = few p.declarations q.declarations (declarations_in (x ∷ [])) at end a.declarations r.few_declarations (one_declared x) k;
   few_instructions = few_instructions p.instructions q.instructions (instructions_in (x ∷ [])) at end a.instructions r.few_instructions (one_instruction x) k;
   few_constants = few_constants p.constants q.constants (constants_in (x ∷ [])) at end a.constants r.few_constants (omega (arith, few_words x at (slice_range words at end) s, length-range words at end fits));
-  faults = subst (λ n. body_faults 0 2 (slice_range words 2 n) ≡ body_faults 0 end (slice_range words end n)) (sym a.words)
+  faults = subst (λ n. body_faults Base 0 2 (slice_range words 2 n) ≡ body_faults Base 0 end (slice_range words end n)) (sym a.words)
       (r.faults ∙ part_passed words at end p.words x k inside most s none);
 }
 
 -- the buffer's own words are two more than those that it lists
-pub listed_size : (words : List ℕ) (at end place : ℕ) (values : List ℕ) → end ≤ length words → SpellsItem at (Lists place values) (slice_range words at end) → at + 2 + length values ≡ end
+pub listed_size : (words : List ℕ) (at end place : ℕ) (values : List ℕ) → end ≤ length words → SpellsItem Base at (Lists place values) (slice_range words at end) → at + 2 + length values ≡ end
 listed_size words at end place values fits s = omega (arith, ap length s.1.parts, length-range words at end fits)
 
 -- the whole program
@@ -126,7 +142,7 @@ two_words (a ∷ b ∷ words) n h k =
     taken [] (suc m) = refl
     taken (w ∷ words) (suc m) = ap (λ l. w ∷ l) (taken words m)
 
-pub program_spelled : (words : List ℕ) (n at : ℕ) (p : Shader) → at ≡ n → slice_index words 0 ≡ 0x00050050 → n ≡ slice_index words 1 → n ≤ length words → IsWalked words n at p → Spells p words
+pub program_spelled : (words : List ℕ) (n at : ℕ) (p : Shader) → at ≡ n → slice_index words 0 ≡ 0x00050050 → n ≡ slice_index words 1 → n ≤ length words → IsWalked words n at p → Spells Base p words
 program_spelled words n at p e version count fits w =
     record {
       items = w.read.items;
@@ -140,9 +156,10 @@ program_spelled words n at p e version count fits w =
       declarations = w.read.declarations;
       instructions = w.read.instructions;
       constants = w.read.constants;
+      typed = w.read.typed;
     }
 
-pub none_walked : (words : List ℕ) (n : ℕ) → 2 ≤ n → IsWalked words n 2 (record { words = n; declarations = []; constants = []; instructions = [] })
+pub none_walked : (words : List ℕ) (n : ℕ) → 2 ≤ n → IsWalked words n 2 (record { words = n; declarations = []; constants = []; instructions = []; typed = [] })
 none_walked words n h = record {
   count = refl;
   begins = omega arith;
@@ -153,6 +170,7 @@ none_walked words n h = record {
     declarations = refl;
     instructions = refl;
     constants = refl;
+    typed = refl;
     few_declarations = omega arith;
     few_instructions = omega arith;
     few_constants = omega arith;
@@ -198,27 +216,27 @@ head_told words n h e =
     }
 
 -- the broken rules of a program whose head breaks none
-pub head_sound : (words : List ℕ) (n : ℕ) → None ≡ first (header_faults words) → n ≡ slice_index words 1 → program_faults words ≡ body_faults 0 2 (slice_range words 2 n)
+pub head_sound : (words : List ℕ) (n : ℕ) → None ≡ first (header_faults words) → n ≡ slice_index words 1 → program_faults Base words ≡ body_faults Base 0 2 (slice_range words 2 n)
 unfolding program_faults
 head_sound words n h e =
     let none : header_faults words ≡ [] = none_first (header_faults words) h in
-    ap (λ l. l ++ (if is_some (first l) then [] else body_faults 0 2 (slice_range words 2 (slice_index words 1)))) none
-    ∙ ap (λ k. body_faults 0 2 (slice_range words 2 k)) (sym e)
+    ap (λ l. l ++ (if is_some (first l) then [] else body_faults Base 0 2 (slice_range words 2 (slice_index words 1)))) none
+    ∙ ap (λ k. body_faults Base 0 2 (slice_range words 2 k)) (sym e)
 
-pub head_refused : (words : List ℕ) (r : Refusal) → Some r ≡ first (header_faults words) → first (program_faults words) ≡ Some r
+pub head_refused : (words : List ℕ) (r : Refusal) → Some r ≡ first (header_faults words) → first (program_faults Base words) ≡ Some r
 unfolding program_faults
 head_refused words r h =
-    ap (λ o. first (header_faults words ++ (if is_some o then [] else body_faults 0 2 (slice_range words 2 (slice_index words 1))))) (sym h)
+    ap (λ o. first (header_faults words ++ (if is_some o then [] else body_faults Base 0 2 (slice_range words 2 (slice_index words 1))))) (sym h)
     ∙ (ap first (append-nil (header_faults words)) ∙ sym h)
 
-pub all_sound : (words : List ℕ) (n at : ℕ) (p : Shader) → at ≡ n → IsWalked words n at p → None ≡ first (header_faults words) → n ≡ slice_index words 1 → first (program_faults words) ≡ None
+pub all_sound : (words : List ℕ) (n at : ℕ) (p : Shader) → at ≡ n → IsWalked words n at p → None ≡ first (header_faults words) → n ≡ slice_index words 1 → first (program_faults Base words) ≡ None
 unfolding body_faults
 all_sound words n at p e w h k =
-    let f : body_faults 0 2 (slice_range words 2 n) ≡ body_faults 0 at (slice_range words at n) =
-    subst (λ m. body_faults 0 2 (slice_range words 2 m) ≡ body_faults 0 at (slice_range words at m)) w.count w.read.faults in
-    ap first (head_sound words n h k ∙ (f ∙ (ap (λ m. body_faults 0 at (slice_range words at m)) (sym e) ∙ ap (body_faults 0 at) (range_none words at))))
+    let f : body_faults Base 0 2 (slice_range words 2 n) ≡ body_faults Base 0 at (slice_range words at n) =
+    subst (λ m. body_faults Base 0 2 (slice_range words 2 m) ≡ body_faults Base 0 at (slice_range words at m)) w.count w.read.faults in
+    ap first (head_sound words n h k ∙ (f ∙ (ap (λ m. body_faults Base 0 at (slice_range words at m)) (sym e) ∙ ap (body_faults Base 0 at) (range_none words at))))
 
 pub part_refused : (words : List ℕ) (n at : ℕ) (p : Shader) (r : Refusal) → IsWalked words n at p → None ≡ first (header_faults words) → n ≡ slice_index words 1
-    → first (body_faults 0 at (slice_range words at p.words)) ≡ Some r → first (program_faults words) ≡ Some r
+    → first (body_faults Base 0 at (slice_range words at p.words)) ≡ Some r → first (program_faults Base words) ≡ Some r
 part_refused words n at p r w h k s =
-    ap first (head_sound words n h k) ∙ (ap (λ m. first (body_faults 0 2 (slice_range words 2 m))) (sym w.count) ∙ (ap first w.read.faults ∙ s))
+    ap first (head_sound words n h k) ∙ (ap (λ m. first (body_faults Base 0 2 (slice_range words 2 m))) (sym w.count) ∙ (ap first w.read.faults ∙ s))

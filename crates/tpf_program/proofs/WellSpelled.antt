@@ -15,7 +15,7 @@ use Rattle.tpf_decode.specs.Spelling.{SpellsFixed, SpellsOperand, SpellsOperands
 use Rattle.tpf_program.specs.declared.instruction.Instruction.{Instruction}
 use Rattle.tpf_program.specs.Program.{Shader}
 use Rattle.tpf_program.specs.Holding.{IsOfWords, SelectsInRange, IsWellSpelled}
-use Rattle.tpf_program.specs.Spelling.{nothing, nothings, operands, arguments, SpellsInstruction, Item, Declares, Does, Lists, Skips, SpellsItems, Spells, instructions_in}
+use Rattle.tpf_program.specs.Spelling.{nothing, nothings, operands, arguments, SpellsInstruction, Item, Declares, Types, Does, Lists, Skips, SpellsItems, Spells, instructions_in}
 
 -- each number of a list is a word
 AllWords : List ℕ → Type 0
@@ -125,15 +125,17 @@ well_spelled i h = record {
   o4 = h.1.1.1.1.0.selects;
 }
 
-instruction_good : (i : Instruction) (words : List ℕ) → SpellsInstruction i words → AllWords words → IsWellSpelled i
+instruction_good : (i : Instruction) (words : List ℕ) → SpellsInstruction Base i words → AllWords words → IsWellSpelled i
 instruction_good i words s h =
     let w = words_left s.spelled.operands [] (words_right s.spelled.head (s.spelled.operands ++ []) (subst AllWords s.spelled.parts h)) in
     let a = operands_good i.code (roles_at Base i.code) (arguments i) s.spelled.operands s.spelled.roles w in
     well_spelled i (joined_good i.count (operands i) a (subst AllGood (sym s.others) (nothings_good i.count nothings five_good)))
 
-items_good : (at : ℕ) (items : List Item) (words : List ℕ) → SpellsItems at items words → AllWords words → (k : ℕ) (i : Instruction) → slice_get (instructions_in items) k ≡ Some i → IsWellSpelled i
+items_good : (at : ℕ) (items : List Item) (words : List ℕ) → SpellsItems Base at items words → AllWords words → (k : ℕ) (i : Instruction) → slice_get (instructions_in items) k ≡ Some i → IsWellSpelled i
 items_good at [] words s h k i e = cc
 items_good at (Declares d ∷ xs) words s h k i e =
+    items_good (at + length s.0) xs s.1 s.4 (words_right s.0 s.1 (subst AllWords s.2 h)) k i e
+items_good at (Types d view ∷ xs) words s h k i e =
     items_good (at + length s.0) xs s.1 s.4 (words_right s.0 s.1 (subst AllWords s.2 h)) k i e
 items_good at (Lists place values ∷ xs) words s h k i e =
     items_good (at + length s.0) xs s.1 s.4 (words_right s.0 s.1 (subst AllWords s.2 h)) k i e
@@ -145,7 +147,7 @@ items_good at (Does j ∷ xs) words s h zero i e =
 items_good at (Does j ∷ xs) words s h (suc k) i e =
     items_good (at + length s.0) xs s.1 s.4 (words_right s.0 s.1 (subst AllWords s.2 h)) k i e
 
-pub program_good : (p : Shader) (tokens : List ℕ) → AreWords tokens → Spells p tokens → (k : ℕ) (i : Instruction) → slice_get p.instructions k ≡ Some i → IsWellSpelled i
+pub program_good : (p : Shader) (tokens : List ℕ) → AreWords tokens → Spells Base p tokens → (k : ℕ) (i : Instruction) → slice_get p.instructions k ≡ Some i → IsWellSpelled i
 unfolding AllWords
 program_good p tokens h s k i e =
     let w = words_left s.body s.ignored ((subst AllWords s.whole (all_words tokens h)).1.1) in

@@ -4,6 +4,7 @@ use Rattle.std.specs.List.{list_any}
 use Rattle.word_base.specs.declared.rule.Refusal.{Refusal}
 use Rattle.word_base.specs.declared.rule.Rule.TheVariants.{L1, L2, L3, L4, L7}
 use Rattle.word_base.specs.Rules.{broken}
+use Rattle.word_base.specs.Settings.{Axes, axes}
 use Rattle.tpf_program.specs.declared.declaration.ViewKind.{ViewKind}
 use Rattle.tpf_program.specs.declared.declaration.ViewKind.TheVariants as view
 use Rattle.tpf_program.specs.declared.declaration.SharedKind.{SharedKind}
@@ -48,10 +49,11 @@ register_count (Temps count) = count
 register_count (Indexable slot count components) = count
 register_count other = 0
 
--- a sum over the declarations passes its limit first at this one
-abbrev pub first_past : ℕ → (Declaration → ℕ) → List Declared → Declaration → Bool
-first_past limit measure before what =
-    nat_le (sum_by (λ d. measure d.what) before) limit && nat_lt limit (sum_by (λ d. measure d.what) before + measure what)
+-- a sum over the declarations, which begins with a number, passes its limit first at this one
+abbrev pub first_past : ℕ → ℕ → (Declaration → ℕ) → List Declared → Declaration → Bool
+first_past limit first measure before what =
+    nat_le (first + sum_by (λ d. measure d.what) before) limit
+    && nat_lt limit (first + sum_by (λ d. measure d.what) before + measure what)
 
 abbrev pub is_from_to : ℕ → ℕ → ℕ → Bool
 is_from_to low high n = nat_le low n && nat_le n high
@@ -72,8 +74,10 @@ is_within (Indexable slot count components) = nat_lt slot 4096 && (nat_le 1 coun
 is_within (Group x y z) = is_group x y z
 is_within other = true
 
-abbrev pub is_past_limit : List Declared → Declaration → Bool
-is_past_limit before what = not (is_within what) || (first_past 32768 shared_bytes before what || first_past 4096 register_count before what)
+-- where so many registers count in front of all declarations
+abbrev pub is_past_limit : ℕ → List Declared → Declaration → Bool
+is_past_limit first before what =
+    not (is_within what) || (first_past 32768 0 shared_bytes before what || first_past 4096 first register_count before what)
 
 -- sizes in bytes that are whole words
 abbrev pub is_stride : ViewKind → Bool
@@ -95,33 +99,27 @@ declares_group (Group x y z) = true
 declares_group other = false
 
 -- the broken rules of one declaration, behind those before it
-abbrev pub refusals_at : Shader → List Declared → Declared → List Refusal
-refusals_at p before d =
+abbrev pub refusals_at : ℕ → Shader → List Declared → Declared → List Refusal
+refusals_at first p before d =
     broken (list_any (λ e. same_thing e.what d.what) before) L1 d.place
     ++ broken (list_any (λ i. nat_lt i.place d.place) p.instructions) L2 d.place
-    ++ broken (is_past_limit before d.what) L3 d.place
+    ++ broken (is_past_limit first before d.what) L3 d.place
     ++ broken (not (has_sizes d.what)) L7 d.place
 
-abbrev pub refusals_from : Shader → List Declared → List Declared → List Refusal
-refusals_from p before [] = []
-refusals_from p before (d ∷ rest) = refusals_at p before d ++ refusals_from p (before ++ d ∷ []) rest
+abbrev pub refusals_from : ℕ → Shader → List Declared → List Declared → List Refusal
+refusals_from first p before [] = []
+refusals_from first p before (d ∷ rest) = refusals_at first p before d ++ refusals_from first p (before ++ d ∷ []) rest
 
--- the broken rules of all declarations
-abbrev pub declaration_refusals : Shader → List Refusal
-declaration_refusals p =
-    refusals_from p [] p.declarations ++ broken (not (list_any (λ d. declares_group d.what) p.declarations)) L4 p.words
+-- the broken rules of all declarations, where so many registers count in front of them: none in the base profile
+abbrev pub declaration_refusals : ℕ → Shader → List Refusal
+declaration_refusals first p =
+    refusals_from first p [] p.declarations ++ broken (not (list_any (λ d. declares_group d.what) p.declarations)) L4 p.words
 
--- the threads of a group
-pub record Threads : Type 0 where
-  pub x : ℕ
-  pub y : ℕ
-  pub z : ℕ
-
-abbrev pub threads_declared : Declaration → Threads → Threads
-threads_declared (Group x y z) others = record { x = x; y = y; z = z }
+abbrev pub threads_declared : Declaration → Axes → Axes
+threads_declared (Group x y z) others = axes x y z
 threads_declared other others = others
 
 -- the threads of a program's group, by the first declaration of one; without one there are none
-abbrev pub threads_in : List Declared → Threads
-threads_in [] = record { x = 0; y = 0; z = 0 }
+abbrev pub threads_in : List Declared → Axes
+threads_in [] = axes 0 0 0
 threads_in (d ∷ rest) = threads_declared d.what (threads_in rest)

@@ -1,5 +1,5 @@
--- The settings that fit a program.
-use Rattle.std.specs.Prelude.{◌≡◌, ℕ, ◌*◌, ◌/◌, ◌<◌, ◌^◌, nat_eq, ◌&&◌, ◌||◌, if◌then◌else◌, Bool, false, List, [], ◌∷◌}
+-- The settings that fit a program. A view without a binding is null, and its counter too.
+use Rattle.std.specs.Prelude.{◌≡◌, ℕ, ◌*◌, ◌/◌, ◌<◌, ◌^◌, nat_eq, not, ◌&&◌, ◌||◌, if◌then◌else◌, Bool, false, List}
 use Rattle.std.specs.Bool.{MatchBool}
 use Rattle.std.specs.List.{list_any}
 use Rattle.word_base.specs.declared.event.Room.{Room}
@@ -12,6 +12,7 @@ use Rattle.tpf_program.specs.declared.declaration.Declaration.TheVariants.{Resou
 use Rattle.tpf_program.specs.declared.declaration.Declared.{Declared}
 use Rattle.tpf_program.specs.declared.instruction.Instruction.{Instruction}
 use Rattle.tpf_program.specs.Program.{Shader}
+use Rattle.tpf_program.specs.Sizes.{first_size}
 
 abbrev pub is_resource : ℕ → Declaration → Bool
 is_resource slot (Resource s view) = nat_eq s slot
@@ -34,19 +35,21 @@ abbrev pub words_declared : ℕ → Declaration → ℕ
 words_declared slot (Shared s kind) = if nat_eq s slot then shared_words kind else 0
 words_declared slot other = 0
 
--- the words of a slot of shared memory: those of its first declaration, and 0 without one
+-- the words of a slot of shared memory: of those that its declarations give the first that is not 0, and 0 without one
 abbrev pub shared_extent : ℕ → List Declared → ℕ
-shared_extent slot [] = 0
-shared_extent slot (d ∷ rest) = if nat_eq (words_declared slot d.what) 0 then shared_extent slot rest else words_declared slot d.what
+shared_extent slot ds = first_size (words_declared slot) ds
 
 -- the length that a room may have: below 2 ^ 30 for a declared view, 1 for a counter, what is declared for shared memory, and 0 for
--- what is not there
-abbrev pub IsExtent : Shader → Room → ℕ → Type 0
-IsExtent p (room.Resource slot) n = MatchBool (list_any (λ d. is_resource slot d.what) p.declarations) (n < 2 ^ 30) (n ≡ 0)
-IsExtent p (room.Uav slot) n = MatchBool (list_any (λ d. is_uav slot d.what) p.declarations) (n < 2 ^ 30) (n ≡ 0)
-IsExtent p (room.Counter slot) n = n ≡ (if list_any (steps_counter slot) p.instructions then 1 else 0)
-IsExtent p (room.Shared slot) n = n ≡ shared_extent slot p.declarations
+-- what is not there or is null
+abbrev pub IsExtent : (Room → Bool) → Shader → Room → ℕ → Type 0
+IsExtent is_null p (room.Resource slot) n =
+    MatchBool (not (is_null (room.Resource slot)) && list_any (λ d. is_resource slot d.what) p.declarations) (n < 2 ^ 30) (n ≡ 0)
+IsExtent is_null p (room.Uav slot) n =
+    MatchBool (not (is_null (room.Uav slot)) && list_any (λ d. is_uav slot d.what) p.declarations) (n < 2 ^ 30) (n ≡ 0)
+IsExtent is_null p (room.Counter slot) n =
+    n ≡ (if not (is_null (room.Counter slot)) && list_any (steps_counter slot) p.instructions then 1 else 0)
+IsExtent is_null p (room.Shared slot) n = n ≡ shared_extent slot p.declarations
 
-pub record FitsRooms (p : Shader) (setting : Setting) : Type 0 where
+pub record FitsRooms (is_null : Room → Bool) (p : Shader) (setting : Setting) : Type 0 where
   pub words : HoldsWords setting
-  pub extents : (room : Room) → IsExtent p room (setting.extent room)
+  pub extents : (room : Room) → IsExtent is_null p room (setting.extent room)

@@ -10,8 +10,9 @@ use Rattle.tpf_decode.specs.declared.argument.Kind.TheVariants as kind
 use Rattle.tpf_decode.specs.declared.argument.Select.TheVariants.{Mask}
 use Rattle.tpf_program.specs.Program.{Shader}
 use Rattle.tpf_program.specs.Spelling.{nothing}
-use Rattle.tpf_program.specs.Opcodes.{meaning_but_return}
-use Rattle.tpf_program.specs.Ends.{close, case_of, innermost, close_around, is_loop, is_loop_or_switch}
+use Rattle.tpf_decode.specs.Profiles.{Base}
+use Rattle.tpf_decode.specs.Opcodes.{meaning_of, opcode_table}
+use Rattle.tpf_program.specs.Ends.{close, case_of, around, close_around, is_loop, is_loop_or_switch}
 use Rattle.tpf_program.specs.Bytecode.{step, start}
 use Rattle.tpf_program.specs.ExampleParts.{slot_of, literal, r0, r0_to, instruction, bare, program_of, setting_of, events_in}
 
@@ -56,46 +57,47 @@ abbrev pub turning : Shader
 turning = program_of (declaration.Uav 0 Raw false false ∷ declaration.Temps 1 ∷ declaration.Group 1 1 1 ∷ []) turns
 
 -- The loop closes at 22 and the switch at 18; its value 4 leads to 15, and 7 to the default at 10.
-pub loop_closes : close turns 1 ≡ Some 22
-unfolding meaning_but_return
+pub loop_closes : close Base turns 1 ≡ Some 22
+unfolding meaning_of opcode_table
 loop_closes = refl
 
-pub switch_closes : close turns 7 ≡ Some 18
-unfolding meaning_but_return
+pub switch_closes : close Base turns 7 ≡ Some 18
+unfolding meaning_of opcode_table
 switch_closes = refl
 
-pub case_four : case_of turns 7 4 ≡ Some 15
-unfolding meaning_but_return
+pub case_four : case_of Base turns 7 4 ≡ Some 15
+unfolding meaning_of opcode_table
 case_four = refl
 
-pub case_seven : case_of turns 7 7 ≡ Some 10
-unfolding meaning_but_return
+pub case_seven : case_of Base turns 7 7 ≡ Some 10
+unfolding meaning_of opcode_table
 case_seven = refl
 
 -- A break at 12 leaves the switch, a break at 3 the loop; a continue at 6 and the end at 22 begin the loop at 1 anew.
-pub break_of_switch : close_around is_loop_or_switch turns 12 ≡ Some 18
-unfolding meaning_but_return
+pub break_of_switch : close_around Base is_loop_or_switch turns 12 ≡ Some 18
+unfolding meaning_of opcode_table
 break_of_switch = refl
 
-pub break_of_loop : close_around is_loop_or_switch turns 3 ≡ Some 22
-unfolding meaning_but_return
+pub break_of_loop : close_around Base is_loop_or_switch turns 3 ≡ Some 22
+unfolding meaning_of opcode_table
 break_of_loop = refl
 
-pub continue_of_loop : innermost is_loop turns 6 ≡ Some 1
-unfolding meaning_but_return
+pub continue_of_loop : around Base is_loop turns 6 ≡ Some 1
+unfolding meaning_of opcode_table
 continue_of_loop = refl
 
-pub end_of_loop : innermost is_loop turns 22 ≡ Some 1
-unfolding meaning_but_return
+pub end_of_loop : around Base is_loop turns 22 ≡ Some 1
+unfolding meaning_of opcode_table
 end_of_loop = refl
 
 -- Its first two events: 11 in the first turn, through the case 1 and the default; none in the second; 1111 in the third.
-pub first_events : (ids : Ids) → events_in 43 (step turning (setting_of ids (λ room. 1))) start ≡ Store (Uav 0) 0 11 ∷ Store (Uav 0) 0 1111 ∷ []
-unfolding meaning_but_return
+pub first_events : (ids : Ids) → events_in 43 (step Base turning (setting_of ids (λ room. 1))) start ≡ Store (Uav 0) 0 11 ∷ Store (Uav 0) 0 1111 ∷ []
+unfolding meaning_of opcode_table
 first_events ids = refl
 
 -- Its whole run: 2111 in the fourth turn, by the case 4 alone, and 2121 in the fifth, by the default, behind which it returns.
 pub all_events : (ids : Ids) →
-    events_in 90 (step turning (setting_of ids (λ room. 1))) start ≡ Store (Uav 0) 0 11 ∷ Store (Uav 0) 0 1111 ∷ Store (Uav 0) 0 2111 ∷ Store (Uav 0) 0 2121 ∷ []
-unfolding meaning_but_return
+    events_in 90 (step Base turning (setting_of ids (λ room. 1))) start
+    ≡ Store (Uav 0) 0 11 ∷ Store (Uav 0) 0 1111 ∷ Store (Uav 0) 0 2111 ∷ Store (Uav 0) 0 2121 ∷ []
+unfolding meaning_of opcode_table
 all_events ids = refl

@@ -33,7 +33,7 @@ pub record AreOfWords (i : Instruction) : Type 0 where
 -- a program's immediate constants and the strides that it declares
 pub record IsProgramOfWords (p : Shader) : Type 0 where
   pub constants : AreWords p.constants
-  pub strides : (kind : Kind) (slot stride : ℕ) → addressing_of kind slot p.declarations ≡ Structures stride → stride < 2 ^ 32
+  pub strides : (kind : Kind) (slot stride : ℕ) → addressing_of p.typed kind slot p.declarations ≡ Structures stride → stride < 2 ^ 32
 
 -- the words that an event names
 abbrev pub IsEventOfWords : Event → Type 0

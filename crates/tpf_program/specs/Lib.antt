@@ -4,7 +4,6 @@ pub mod Declarations
 pub mod Faults
 pub mod StraightLine
 pub mod Reading
-pub mod Opcodes
 pub mod Sizes
 pub mod Values
 pub mod Writes
@@ -18,6 +17,7 @@ pub mod Nesting
 pub mod Bytecode
 pub mod Extents
 pub mod ExampleParts
+pub mod RuleExamples
 pub mod FlowExamples
 pub mod ValueExamples
 pub mod PlanExamples

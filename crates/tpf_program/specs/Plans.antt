@@ -11,10 +11,11 @@ use Rattle.word_base.specs.declared.event.Scope.{Scope}
 use Rattle.word_base.specs.declared.event.Scope.TheVariants.{Device, Group}
 use Rattle.tpf_decode.specs.declared.argument.Argument.{Argument}
 use Rattle.tpf_program.specs.declared.instruction.Instruction.{Instruction}
-use Rattle.tpf_program.specs.Opcodes.{Meaning, LoadRaw, LoadStructured, StoreRaw, StoreStructured, Acts, Compares, Fetches, Exchanges, Allocates, Consumes, Syncs}
+use Rattle.tpf_decode.specs.declared.meaning.Meaning.{Meaning}
+use Rattle.tpf_decode.specs.declared.meaning.Meaning.TheVariants.{LoadRaw, LoadStructured, LoadTyped, StoreRaw, StoreStructured, StoreTyped, Acts, Compares, Fetches, Exchanges, Allocates, Consumes, Syncs}
 use Rattle.tpf_program.specs.Values.{Context, value, scalar, selected}
 use Rattle.tpf_program.specs.Writes.{has_bit, masked, written}
-use Rattle.tpf_program.specs.Views.{Address, room_of, reached, raw_at, structured_at, paired_at}
+use Rattle.tpf_program.specs.Views.{Address, room_of, reached, raw_at, structured_at, typed_at, paired_at}
 
 -- a load for each written component, of the word that the view's selection names
 abbrev pub load_part : Context → Argument → Address → ℕ → Option Event
@@ -29,6 +30,13 @@ store_part k view at from c = option_map (λ word. Store (room_of view) word (va
 
 abbrev pub stores : Context → Argument → Address → Argument → List (Option Event)
 stores k view at from = map (store_part k view at from) (masked view.select)
+
+-- a load of one word from a typed view, whatever is written, and a store of the first component to one
+abbrev pub typed_load : Context → Argument → Argument → List (Option Event)
+typed_load k view index = option_map (λ word. Load (room_of view) word) (reached k view (typed_at k index) 0) ∷ []
+
+abbrev pub typed_store : Context → Argument → Argument → Argument → List (Option Event)
+typed_store k view index from = store_part k view (typed_at k index) from 0 ∷ []
 
 -- an atomic on one word
 abbrev pub atomic : Context → Argument → Argument → Act → ℕ → ℕ → List (Option Event)
@@ -56,8 +64,10 @@ sync controls =
 abbrev pub parts : Context → Meaning → Instruction → List (Option Event)
 parts k LoadRaw i = loads k i.o0 i.o2 (raw_at k i.o1)
 parts k LoadStructured i = loads k i.o0 i.o3 (structured_at k i.o3 i.o1 i.o2)
+parts k LoadTyped i = typed_load k i.o2 i.o1
 parts k StoreRaw i = stores k i.o0 (raw_at k i.o1) i.o2
 parts k StoreStructured i = stores k i.o0 (structured_at k i.o0 i.o1 i.o2) i.o3
+parts k StoreTyped i = typed_store k i.o0 i.o1 i.o2
 parts k (Acts kind) i = atomic k i.o0 i.o1 kind (scalar k i.o2) 0
 parts k Compares i = atomic k i.o0 i.o1 act.CompareExchange (scalar k i.o2) (scalar k i.o3)
 parts k (Fetches kind) i = atomic k i.o1 i.o2 kind (scalar k i.o3) 0

@@ -1,19 +1,21 @@
 -- A program as contracts see it.
 use Rattle.std.specs.Prelude.{ℕ, List, []}
+use Rattle.word_base.specs.declared.event.Room.{Room}
 use Rattle.tpf_program.specs.declared.declaration.Declared.{Declared}
 use Rattle.tpf_program.specs.declared.instruction.Instruction.{Instruction}
 
--- The number of words, the declarations and the instructions in their order, and the words of the immediate constant buffers, one
--- buffer after the other. Nothing in it is nested.
+-- The number of words, the declarations and the instructions in their order, the words of the immediate constant buffers, one buffer
+-- after the other, and the rooms of the typed views, of which a program of the base profile has none. Nothing in it is nested.
 pub record Shader : Type 0 where
   pub words : ℕ
   pub declarations : List Declared
   pub constants : List ℕ
   pub instructions : List Instruction
+  pub typed : List Room
 
 -- a program of so many words, of which none are read
 abbrev pub unread : ℕ → Shader
-unread words = record { words = words; declarations = []; constants = []; instructions = [] }
+unread words = record { words = words; declarations = []; constants = []; instructions = []; typed = [] }
 
 -- the program without words
 abbrev pub empty : Shader

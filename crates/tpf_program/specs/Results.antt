@@ -6,8 +6,9 @@ use Rattle.word_base.specs.Alu.{unary, binary, ternary, inserted_field, pair, di
 use Rattle.word_base.specs.Registers.{Registers}
 use Rattle.tpf_decode.specs.declared.argument.Argument.{Argument}
 use Rattle.tpf_program.specs.declared.instruction.Instruction.{Instruction}
-use Rattle.tpf_program.specs.Opcodes.{Meaning, One, Two, Three, Inserts, Pair, Swaps, LoadRaw, LoadStructured, Measures, Fetches, Exchanges, Allocates, Consumes}
-use Rattle.tpf_program.specs.Sizes.{Addressing, Bytes, Structures}
+use Rattle.tpf_decode.specs.declared.meaning.Meaning.{Meaning}
+use Rattle.tpf_decode.specs.declared.meaning.Meaning.TheVariants.{One, Two, Three, Inserts, Pair, Swaps, LoadRaw, LoadStructured, LoadTyped, Measures, Fetches, Exchanges, Allocates, Consumes}
+use Rattle.tpf_program.specs.Sizes.{Addressing, Bytes, Structures, Words}
 use Rattle.tpf_program.specs.Values.{Context, of_four, selected, value}
 use Rattle.tpf_program.specs.Writes.{written, target, with_words, writes, writes_two}
 use Rattle.tpf_program.specs.Views.{room_of, addressing}
@@ -27,10 +28,11 @@ swaps k i =
     writes_two k i.o0 (λ c. if nat_eq (value k i.o2 c) 0 then value k i.o3 c else value k i.o4 c)
     i.o1 (λ c. if nat_eq (value k i.o2 c) 0 then value k i.o4 c else value k i.o3 c)
 
--- bufinfo: the bytes of a raw view, modulo 2 ^ 32; the structures of a structured view and their bytes
+-- bufinfo: the bytes of a raw view, modulo 2 ^ 32; the structures of a structured view and their bytes; it measures no typed view
 abbrev pub measure_by : Addressing → ℕ → ℕ → ℕ
 measure_by Bytes extent c = of_four (4 * extent % 2 ^ 32) 0 0 0 c
 measure_by (Structures stride) extent c = of_four (extent / (stride / 4)) stride 0 0 c
+measure_by Words extent c = 0
 
 abbrev pub measure : Context → Argument → ℕ → ℕ
 measure k view c = measure_by (addressing k view) (k.setting.extent (room_of view)) (selected view.select c)
@@ -38,6 +40,10 @@ measure k view c = measure_by (addressing k view) (k.setting.extent (room_of vie
 -- what a load leaves, and an atomic: one word in every component
 abbrev pub loaded : Context → Argument → List ℕ → Registers
 loaded k to words = with_words (target k to) (written to) words k.registers
+
+-- a typed load: its word, 0, 0 and 1, from which the view's selection picks
+abbrev pub loaded_typed : Context → Argument → Argument → ℕ → Registers
+loaded_typed k to view word = writes k to (λ c. of_four word 0 0 1 (selected view.select c)) k.registers
 
 abbrev pub fetched : Context → Argument → ℕ → Registers
 fetched k to word = writes k to (λ c. word) k.registers
@@ -55,6 +61,7 @@ outcome k (Pair op) i words = pairs k op i
 outcome k Swaps i words = swaps k i
 outcome k LoadRaw i words = loaded k i.o0 words
 outcome k LoadStructured i words = loaded k i.o0 words
+outcome k LoadTyped i words = loaded_typed k i.o0 i.o2 (slice_index words 0)
 outcome k Measures i words = arithmetic k i.o0 (measure k i.o1)
 outcome k (Fetches kind) i words = fetched k i.o0 (slice_index words 0)
 outcome k Exchanges i words = fetched k i.o0 (slice_index words 0)

@@ -10,7 +10,9 @@ use Rattle.tpf_program.specs.Program.{Shader}
 use Rattle.tpf_decode.specs.declared.argument.Argument.{Argument}
 use Rattle.tpf_decode.specs.declared.argument.Kind.TheVariants.{Null}
 use Rattle.tpf_decode.specs.declared.argument.Select.TheVariants.{Bare}
-use Rattle.tpf_decode.specs.Profiles.{Base}
+use Rattle.tpf_decode.specs.Profiles.{Profile}
+use Rattle.word_base.specs.declared.event.Room.{Room}
+use Rattle.word_base.specs.declared.event.Room.TheVariants as room
 use Rattle.tpf_decode.specs.Tokens.{has_flag}
 use Rattle.tpf_decode.specs.Opcodes.{form_of}
 use Rattle.tpf_decode.specs.Spelling.{SpellsCustom}
@@ -49,13 +51,30 @@ IsDeclaredBy (Group x y z) code controls a further =
 IsDeclaredBy (ImmediateConstants vectors) code controls a further = ⊥
 
 -- a declaration's words: the tokens of its opcode, its operand, and its further words
-pub record SpellsDeclaration (what : Declaration) (words : List ℕ) : Type 0 where
+pub record SpellsDeclaration (profile : Profile) (what : Declaration) (words : List ℕ) : Type 0 where
   pub code : ℕ
   pub controls : ℕ
   pub arguments : List Argument
   pub further : List ℕ
-  pub spelled : token.Spells Base code controls arguments further words
+  pub spelled : token.Spells profile code controls arguments further words
   pub declared : IsDeclaredBy what code controls (named arguments) further
+
+-- A typed view counts as one of structures of one word. (dcl_resource, dcl_uav_typed)
+abbrev pub IsTypedBy : Declaration → Room → ℕ → ℕ → Argument → Type 0
+IsTypedBy (Resource slot (view.Structured stride)) view code controls a =
+    (code ≡ 88) × (slot ≡ a.slot) × (stride ≡ 4) × (view ≡ room.Resource slot)
+IsTypedBy (Uav slot (view.Structured stride) coherent ordered) view code controls a =
+    (code ≡ 156) × (slot ≡ a.slot) × (stride ≡ 4) × (coherent ≡ has_flag controls 16) × (ordered ≡ false) × (view ≡ room.Uav slot)
+IsTypedBy what view code controls a = ⊥
+
+-- the words of its declaration, of which the last says the type of its elements
+pub record SpellsTyped (profile : Profile) (what : Declaration) (view : Room) (words : List ℕ) : Type 0 where
+  pub code : ℕ
+  pub controls : ℕ
+  pub arguments : List Argument
+  pub further : List ℕ
+  pub spelled : token.Spells profile code controls arguments further words
+  pub declared : IsTypedBy what view code controls (named arguments)
 
 -- the five operands of an instruction, and those of them that it has
 abbrev pub operands : Instruction → List Argument
@@ -68,31 +87,34 @@ abbrev pub nothings : List Argument
 nothings = nothing ∷ nothing ∷ nothing ∷ nothing ∷ nothing ∷ []
 
 -- An instruction's words: the tokens of its opcode, and then its operands. The operands that it has not are the null operand.
-pub record SpellsInstruction (i : Instruction) (words : List ℕ) : Type 0 where
-  pub spelled : token.Spells Base i.code i.controls (arguments i) [] words
-  pub form : is_some (form_of Base i.code) ≡ true
+pub record SpellsInstruction (profile : Profile) (i : Instruction) (words : List ℕ) : Type 0 where
+  pub spelled : token.Spells profile i.code i.controls (arguments i) [] words
+  pub form : is_some (form_of profile i.code) ≡ true
   pub size : i.length ≡ length words
   pub count : i.count ≤ 5
   pub others : drop i.count (operands i) ≡ drop i.count nothings
 
--- A part of a program: a declaration or an instruction, each with its place, the words of an immediate constant buffer with its
--- place, or other custom data.
+-- A part of a program: a declaration, that of a typed view, or an instruction, each with its place, the words of an immediate constant
+-- buffer with its place, or other custom data.
 pub data Item : Type 0 where
   Declares : (declared : Declared) → Item
+  Types : (declared : Declared) (view : Room) → Item
   Does : (instruction : Instruction) → Item
   Lists : (place : ℕ) (values : List ℕ) → Item
   Skips : (kind : ℕ) (values : List ℕ) → Item
 
-abbrev pub SpellsItem : ℕ → Item → List ℕ → Type 0
-SpellsItem at (Declares d) words = (d.place ≡ at) × SpellsDeclaration d.what words
-SpellsItem at (Does i) words = (i.place ≡ at) × SpellsInstruction i words
-SpellsItem at (Lists place values) words = (place ≡ at) × SpellsCustom 3 values words
-SpellsItem at (Skips kind values) words = (kind < 3) × SpellsCustom kind values words
+abbrev pub SpellsItem : Profile → ℕ → Item → List ℕ → Type 0
+SpellsItem profile at (Declares d) words = (d.place ≡ at) × SpellsDeclaration profile d.what words
+SpellsItem profile at (Types d view) words = (d.place ≡ at) × SpellsTyped profile d.what view words
+SpellsItem profile at (Does i) words = (i.place ≡ at) × SpellsInstruction profile i words
+SpellsItem profile at (Lists place values) words = (place ≡ at) × SpellsCustom 3 values words
+SpellsItem profile at (Skips kind values) words = (kind < 3) × SpellsCustom kind values words
 
 -- the words from a place on are the spellings of the parts, one after the other
-abbrev pub SpellsItems : ℕ → List Item → List ℕ → Type 0
-SpellsItems at [] words = words ≡ []
-SpellsItems at (x ∷ xs) words = (front : List ℕ) × (rest : List ℕ) × (words ≡ front ++ rest) × SpellsItem at x front × SpellsItems (at + length front) xs rest
+abbrev pub SpellsItems : Profile → ℕ → List Item → List ℕ → Type 0
+SpellsItems profile at [] words = words ≡ []
+SpellsItems profile at (x ∷ xs) words =
+    (front : List ℕ) × (rest : List ℕ) × (words ≡ front ++ rest) × SpellsItem profile at x front × SpellsItems profile (at + length front) xs rest
 
 -- an immediate constant buffer counts as a declaration of its vectors
 abbrev pub listed : ℕ → List ℕ → Declared
@@ -101,6 +123,7 @@ listed place values = record { place = place; what = ImmediateConstants (length 
 abbrev pub declarations_in : List Item → List Declared
 declarations_in [] = []
 declarations_in (Declares d ∷ xs) = d ∷ declarations_in xs
+declarations_in (Types d view ∷ xs) = d ∷ declarations_in xs
 declarations_in (Does i ∷ xs) = declarations_in xs
 declarations_in (Lists place values ∷ xs) = listed place values ∷ declarations_in xs
 declarations_in (Skips kind values ∷ xs) = declarations_in xs
@@ -108,6 +131,7 @@ declarations_in (Skips kind values ∷ xs) = declarations_in xs
 abbrev pub instructions_in : List Item → List Instruction
 instructions_in [] = []
 instructions_in (Declares d ∷ xs) = instructions_in xs
+instructions_in (Types d view ∷ xs) = instructions_in xs
 instructions_in (Does i ∷ xs) = i ∷ instructions_in xs
 instructions_in (Lists place values ∷ xs) = instructions_in xs
 instructions_in (Skips kind values ∷ xs) = instructions_in xs
@@ -115,19 +139,29 @@ instructions_in (Skips kind values ∷ xs) = instructions_in xs
 abbrev pub constants_in : List Item → List ℕ
 constants_in [] = []
 constants_in (Declares d ∷ xs) = constants_in xs
+constants_in (Types d view ∷ xs) = constants_in xs
 constants_in (Does i ∷ xs) = constants_in xs
 constants_in (Lists place values ∷ xs) = values ++ constants_in xs
 constants_in (Skips kind values ∷ xs) = constants_in xs
 
+abbrev pub typed_in : List Item → List Room
+typed_in [] = []
+typed_in (Declares d ∷ xs) = typed_in xs
+typed_in (Types d view ∷ xs) = view ∷ typed_in xs
+typed_in (Does i ∷ xs) = typed_in xs
+typed_in (Lists place values ∷ xs) = typed_in xs
+typed_in (Skips kind values ∷ xs) = typed_in xs
+
 -- The words of a chunk spell a program: the version token of cs_5_0, the number of words, and then the parts. Words past that number
 -- are ignored.
-pub record Spells (p : Shader) (tokens : List ℕ) : Type 0 where
+pub record Spells (profile : Profile) (p : Shader) (tokens : List ℕ) : Type 0 where
   pub items : List Item
   pub body : List ℕ
   pub ignored : List ℕ
   pub whole : tokens ≡ 0x00050050 ∷ p.words ∷ (body ++ ignored)
   pub count : length body + 2 ≡ p.words
-  pub parts : SpellsItems 2 items body
+  pub parts : SpellsItems profile 2 items body
   pub declarations : p.declarations ≡ declarations_in items
   pub instructions : p.instructions ≡ instructions_in items
   pub constants : p.constants ≡ constants_in items
+  pub typed : p.typed ≡ typed_in items

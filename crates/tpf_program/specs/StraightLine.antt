@@ -10,6 +10,7 @@ use Rattle.tpf_decode.specs.declared.argument.Kind.{Kind}
 use Rattle.tpf_decode.specs.declared.argument.Kind.TheVariants as kind
 use Rattle.tpf_decode.specs.declared.argument.Select.{Select}
 use Rattle.tpf_decode.specs.declared.argument.Select.TheVariants.{Mask}
+use Rattle.tpf_decode.specs.Profiles.{Base}
 use Rattle.tpf_decode.specs.Tokens.{has_flag}
 use Rattle.tpf_program.specs.declared.declaration.SharedKind.TheVariants as shared
 use Rattle.tpf_program.specs.declared.declaration.Declaration.{Declaration}
@@ -114,16 +115,18 @@ is_built_in declarations i =
 
 -- `ret` stands once, as the last
 abbrev pub ReturnsAtEnd : List Instruction → Type 0
-ReturnsAtEnd is = (before : List Instruction) × (last : Instruction) × (is ≡ before ++ last ∷ []) × IsTrue (returns last) × IsTrue (list_all (λ i. not (returns i)) before)
+ReturnsAtEnd is =
+    (before : List Instruction) × (last : Instruction) × (is ≡ before ++ last ∷ [])
+    × IsTrue (returns last) × IsTrue (list_all (λ i. not (returns i)) before)
 
 -- The words spell this program, and it is of the form.
 pub record IsStraightLine (tokens : List ℕ) (p : Shader) : Type 0 where
-  pub spelled : Spells p tokens
+  pub spelled : Spells Base p tokens
   pub size : p.words ≤ 65536
   pub declarations : IsTrue (list_all (λ d. is_built d.what) p.declarations)
   pub instructions : IsTrue (list_all (is_built_in p.declarations) p.instructions)
   pub end : ReturnsAtEnd p.instructions
-  pub sound : declaration_refusals p ≡ []
+  pub sound : declaration_refusals 0 p ≡ []
 
 -- the one refusal of words that spell no program of the form
 pub record IsOutside (tokens : List ℕ) (r : Refusal) : Type 0 where
@@ -132,4 +135,4 @@ pub record IsOutside (tokens : List ℕ) (r : Refusal) : Type 0 where
 
 -- The words break this rule of tokens; or they break none, and spell no program of the form.
 abbrev pub IsRefused : List ℕ → Refusal → Type 0
-IsRefused tokens r = Contains (program_faults tokens) r ⊎ ((program_faults tokens ≡ []) × IsOutside tokens r)
+IsRefused tokens r = Contains (program_faults Base tokens) r ⊎ ((program_faults Base tokens ≡ []) × IsOutside tokens r)

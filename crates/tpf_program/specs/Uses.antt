@@ -1,29 +1,28 @@
--- The rules on what instructions use: it is declared, and views are of the kind that an instruction asks for. (Direct3D 11 functional
--- specification: declarations of registers and of resources; Shader Model 5 assembly: raw and structured views.)
-use Rattle.std.specs.Prelude.{◌≡◌, ℕ, nat_eq, nat_le, not, ◌&&◌, Bool, true, false, List, [], ◌∷◌, ◌++◌, flat_map, length, take, Option, Some, None, refl}
+-- The rules on what instructions use: it is declared before them, and views are of the kind that an instruction asks for. (Direct3D 11
+-- functional specification: declarations of registers and of resources; Shader Model 5 assembly: raw, structured and typed views.)
+use Rattle.std.specs.Prelude.{ℕ, nat_eq, nat_le, not, ◌&&◌, Bool, true, false, List, [], ◌∷◌, ◌++◌, filter, flat_map, length, take, Option, Some, None}
 use Rattle.std.specs.List.{list_any}
+use Rattle.word_base.specs.declared.event.Room.{Room}
 use Rattle.word_base.specs.declared.rule.Refusal.{Refusal}
 use Rattle.word_base.specs.declared.rule.Rule.TheVariants.{L5, L6, L8}
-use Rattle.word_base.specs.Rules.{broken, refusal}
+use Rattle.word_base.specs.Rules.{broken}
 use Rattle.tpf_decode.specs.declared.argument.Argument.{Argument}
 use Rattle.tpf_decode.specs.declared.argument.Kind.{Kind}
 use Rattle.tpf_decode.specs.declared.argument.Kind.TheVariants as kind
 use Rattle.tpf_decode.specs.declared.argument.Relative.{Relative}
-use Rattle.tpf_decode.specs.declared.argument.Select.TheVariants.{Mask}
-use Rattle.tpf_decode.specs.declared.opcode.Form.{Form}
-use Rattle.tpf_decode.specs.Profiles.{Base}
-use Rattle.tpf_decode.specs.Opcodes.{form_of, roles_of, row_of, opcode_table}
+use Rattle.tpf_decode.specs.declared.meaning.Meaning.{Meaning}
+use Rattle.tpf_decode.specs.declared.meaning.Meaning.TheVariants.{LoadRaw, LoadStructured, LoadTyped, StoreRaw, StoreStructured, StoreTyped, Measures, Allocates, Consumes}
+use Rattle.tpf_decode.specs.Profiles.{Profile}
+use Rattle.tpf_decode.specs.Opcodes.{meaning_of, form_of_meaning, roles_of}
 use Rattle.tpf_program.specs.declared.declaration.Declaration.{Declaration}
 use Rattle.tpf_program.specs.declared.declaration.Declaration.TheVariants.{Constants, Resource, Uav, Shared, Input, Temps, Indexable, ImmediateConstants}
 use Rattle.tpf_program.specs.declared.declaration.Declared.{Declared}
-use Rattle.tpf_program.specs.declared.declaration.ViewKind.TheVariants as view
 use Rattle.tpf_program.specs.declared.instruction.Instruction.{Instruction}
 use Rattle.tpf_program.specs.Declarations.{same_id}
-use Rattle.tpf_program.specs.ExampleParts.{slot_of, literal, instruction, bare, program_of}
-use Rattle.tpf_program.specs.Opcodes.{Meaning, LoadRaw, StoreRaw, LoadStructured, StoreStructured, Allocates, Consumes, meaning_of, meaning_but_return}
+use Rattle.tpf_program.specs.Ends.{has}
 use Rattle.tpf_program.specs.Program.{Shader}
-use Rattle.tpf_program.specs.Sizes.{Addressing, Bytes, Structures, addressing_declared, temps_of}
-use Rattle.tpf_program.specs.Spelling.{nothing, operands}
+use Rattle.tpf_program.specs.Sizes.{Addressing, Bytes, Structures, Words, addressing_declared, temps_of}
+use Rattle.tpf_program.specs.Spelling.{operands}
 
 -- a thing that an operand names: its kind and its slot
 pub record Use : Type 0 where
@@ -47,16 +46,9 @@ added_uses indexed relative = []
 abbrev pub operand_uses : Argument → List Use
 operand_uses a = use_of a.kind a.slot ∷ added_uses (is_indexed a.kind) a.relative
 
--- an instruction has as many operands as its opcode has roles
-abbrev pub roles_in : Option Form → ℕ
-roles_in None = 0
-roles_in (Some form) = length (roles_of form)
-
-abbrev pub uses_of : Option Form → Instruction → List Use
-uses_of form i = flat_map operand_uses (take (roles_in form) (operands i))
-
-abbrev pub uses : Instruction → List Use
-uses i = uses_of (form_of Base i.code) i
+-- an instruction has as many operands as what it does has roles
+abbrev pub uses : Meaning → Instruction → List Use
+uses meaning i = flat_map operand_uses (take (length (roles_of (form_of_meaning meaning))) (operands i))
 
 -- immediates and the null operand name nothing
 abbrev pub is_thing : Kind → Bool
@@ -90,48 +82,51 @@ is_temp_of temps other slot = false
 abbrev pub is_past : List Declared → Use → Bool
 is_past ds u = is_declared ds u && is_temp_of (temps_of ds) u.kind u.slot
 
--- A view of bytes where the instruction asks for structures, or the other way round. Counters stand beside structures alone.
-abbrev pub differs : Meaning → Option Addressing → Bool
-differs LoadRaw (Some (Structures stride)) = true
-differs StoreRaw (Some (Structures stride)) = true
-differs LoadStructured (Some Bytes) = true
-differs StoreStructured (Some Bytes) = true
-differs Allocates (Some Bytes) = true
-differs Consumes (Some Bytes) = true
-differs meaning addressing = false
+-- the ways by which an instruction reaches a view
+abbrev pub is_bytes : Addressing → Bool
+is_bytes Bytes = true
+is_bytes other = false
 
-abbrev pub is_other_view : List Declared → Meaning → Use → Bool
-is_other_view ds meaning u = list_any (λ d. differs meaning (addressing_declared u.kind u.slot d.what)) ds
+abbrev pub is_structures : Addressing → Bool
+is_structures (Structures stride) = true
+is_structures other = false
 
--- the broken rules of an instruction with that meaning which names these things, and of all instructions
-abbrev pub refusals_for : List Declared → Meaning → List Use → ℕ → List Refusal
-refusals_for ds meaning us place =
+abbrev pub is_words : Addressing → Bool
+is_words Words = true
+is_words other = false
+
+-- An instruction on a view of another kind: by bytes, by structures, beside which alone counters stand, or by words. Atomics reach each
+-- kind, and bufinfo measures those of bytes and of structures.
+abbrev pub differs : Meaning → Addressing → Bool
+differs LoadRaw way = not (is_bytes way)
+differs StoreRaw way = not (is_bytes way)
+differs LoadStructured way = not (is_structures way)
+differs StoreStructured way = not (is_structures way)
+differs Allocates way = not (is_structures way)
+differs Consumes way = not (is_structures way)
+differs LoadTyped way = not (is_words way)
+differs StoreTyped way = not (is_words way)
+differs Measures way = is_words way
+differs meaning way = false
+
+abbrev pub is_other_view : List Room → List Declared → Meaning → Use → Bool
+is_other_view typed ds meaning u = list_any (λ d. has (differs meaning) (addressing_declared typed u.kind u.slot d.what)) ds
+
+-- the broken rules of an instruction with that meaning which names these things, where this is declared before it
+abbrev pub refusals_for : List Room → List Declared → Meaning → List Use → ℕ → List Refusal
+refusals_for typed ds meaning us place =
     broken (list_any (is_missing ds) us) L5 place
     ++ broken (list_any (is_past ds) us) L6 place
-    ++ broken (list_any (is_other_view ds meaning) us) L8 place
+    ++ broken (list_any (is_other_view typed ds meaning) us) L8 place
 
-abbrev pub use_refusals : Shader → List Refusal
-use_refusals p = flat_map (λ i. refusals_for p.declarations (meaning_of i.code) (uses i) i.place) p.instructions
+abbrev pub refusals_by : List Room → List Declared → Option Meaning → Instruction → List Refusal
+refusals_by typed ds None i = []
+refusals_by typed ds (Some meaning) i = refusals_for typed ds meaning (uses meaning i) i.place
 
--- Examples: a register without any declaration, and one past it; a raw store to a structured view; and all as it should be.
-abbrev pub moving : ℕ → Instruction
-moving slot = instruction 54 0 (slot_of kind.Temp slot (Mask 1)) (literal 7) nothing nothing
+-- the declarations that do not stand behind a place; since no two parts have one place, those before the instruction there
+abbrev pub up_to : ℕ → List Declared → List Declared
+up_to place ds = filter (λ d. nat_le d.place place) ds
 
-abbrev pub storing : Instruction
-storing = instruction 166 0 (slot_of kind.Uav 2 (Mask 1)) (literal 0) (literal 7) nothing
-
-pub undeclared : use_refusals (program_of [] (moving 0 ∷ bare 62 ∷ [])) ≡ refusal L5 0 ∷ []
-unfolding meaning_but_return form_of row_of opcode_table
-undeclared = refl
-
-pub past : use_refusals (program_of (Temps 3 ∷ []) (moving 2 ∷ moving 3 ∷ bare 62 ∷ [])) ≡ refusal L6 0 ∷ []
-unfolding meaning_but_return form_of row_of opcode_table
-past = refl
-
-pub structured : use_refusals (program_of (Uav 2 (view.Structured 8) false false ∷ []) (storing ∷ bare 62 ∷ [])) ≡ refusal L8 0 ∷ []
-unfolding meaning_but_return form_of row_of opcode_table
-structured = refl
-
-pub raw : use_refusals (program_of (Uav 2 view.Raw false false ∷ []) (storing ∷ bare 62 ∷ [])) ≡ []
-unfolding meaning_but_return form_of row_of opcode_table
-raw = refl
+-- the broken rules of all instructions
+abbrev pub use_refusals : Profile → Shader → List Refusal
+use_refusals profile p = flat_map (λ i. refusals_by p.typed (up_to i.place p.declarations) (meaning_of profile i.code) i) p.instructions

@@ -8,7 +8,8 @@ use Rattle.tpf_decode.specs.declared.argument.Kind.TheVariants as kind
 use Rattle.tpf_decode.specs.declared.argument.Select.TheVariants.{Mask, Swizzle, One}
 use Rattle.tpf_program.specs.Program.{Shader}
 use Rattle.tpf_program.specs.Spelling.{nothing}
-use Rattle.tpf_program.specs.Opcodes.{meaning_but_return}
+use Rattle.tpf_decode.specs.Profiles.{Base}
+use Rattle.tpf_decode.specs.Opcodes.{meaning_of, opcode_table}
 use Rattle.tpf_program.specs.Values.{Context, context, value}
 use Rattle.tpf_program.specs.Writes.{written, target, InElement, Nowhere, with_temp, with_element}
 use Rattle.tpf_program.specs.Bytecode.{result}
@@ -78,20 +79,45 @@ no_place ids = refl
 -- udiv r0.x, r0.x, l(7), l(3): the rest is written behind the quotient. udiv r0.x, x1[r0.x + 3].x, l(7), l(3): the element is that of
 -- r0.x before.
 abbrev pub into_r0 : Ids → Registers
-into_r0 ids = result indexed (setting_of ids (λ room. 0)) registers (instruction 78 0 (r0_to 1) (r0_to 1) (literal 7) (literal 3)) []
+into_r0 ids = result Base indexed (setting_of ids (λ room. 0)) registers (instruction 78 0 (r0_to 1) (r0_to 1) (literal 7) (literal 3)) []
 
 pub second_counts : (ids : Ids) → (into_r0 ids).temp 0 0 ≡ 1
-unfolding meaning_but_return
+unfolding meaning_of opcode_table
 second_counts ids = refl
 
 abbrev pub into_element : Ids → Registers
 into_element ids =
-    result indexed (setting_of ids (λ room. 0)) registers (instruction 78 0 (r0_to 1) (record (element 3 0) { select = Mask 1 }) (literal 7) (literal 3)) []
+    result Base indexed (setting_of ids (λ room. 0)) registers
+    (instruction 78 0 (r0_to 1) (record (element 3 0) { select = Mask 1 }) (literal 7) (literal 3)) []
 
 pub first_word : (ids : Ids) → (into_element ids).temp 0 0 ≡ 2
-unfolding meaning_but_return
+unfolding meaning_of opcode_table
 first_word ids = refl
 
 pub index_at_start : (ids : Ids) → (into_element ids).indexable 1 2 0 ≡ 1
-unfolding meaning_but_return
+unfolding meaning_of opcode_table
 index_at_start ids = refl
+
+-- swapc r0.x, r0.y, l(c), l(3), l(4): exchanged where c is not 0. imul r0.x, r0.y, l(-1), l(2): the high word, and then the low one
+abbrev pub swapped : Ids → ℕ → Registers
+swapped ids c =
+    result Base indexed (setting_of ids (λ room. 0)) zeros (record (instruction 142 0 (r0_to 1) (r0_to 2) (literal c) (literal 3)) { o4 = literal 4 }) []
+
+pub exchanged : (ids : Ids) → (swapped ids 1).temp 0 0 ≡ 4
+unfolding meaning_of opcode_table
+exchanged ids = refl
+
+pub kept : (ids : Ids) → (swapped ids 0).temp 0 1 ≡ 4
+unfolding meaning_of opcode_table
+kept ids = refl
+
+abbrev pub multiplied : Ids → Registers
+multiplied ids = result Base indexed (setting_of ids (λ room. 0)) zeros (instruction 38 0 (r0_to 1) (r0_to 2) (literal 0xFFFFFFFF) (literal 2)) []
+
+pub high_word : (ids : Ids) → (multiplied ids).temp 0 0 ≡ 0xFFFFFFFF
+unfolding meaning_of opcode_table
+high_word ids = refl
+
+pub low_word : (ids : Ids) → (multiplied ids).temp 0 1 ≡ 0xFFFFFFFE
+unfolding meaning_of opcode_table
+low_word ids = refl

@@ -1,7 +1,7 @@
-ghost use Rattle.std.specs.Prelude.{◌≡◌, ◌⊎◌, ℕ, ◌<◌, List, Some, slice_get};
+ghost use Rattle.std.specs.Prelude.{◌≡◌, ◌⊎◌, ℕ, ◌<◌, List, Some};
+ghost use Rattle.tpf_decode.specs.Profiles.{Profile};
 ghost use Rattle.tpf_program.specs.declared.instruction.Instruction.{Instruction};
-ghost use Rattle.tpf_program.specs.Ends.{Opens, part_of, close};
-ghost use Rattle.tpf_program.specs.Opcodes.{meaning_of};
+ghost use Rattle.tpf_program.specs.Ends.{close};
 
 /// What holds of the ends that match, for the proofs of callers. It does nothing when it runs.
 ///
@@ -9,8 +9,8 @@ ghost use Rattle.tpf_program.specs.Opcodes.{meaning_of};
 /// are nested, or the earlier one closes before the later one opens.
 #[tactic(auto, using(crate::proofs::Nested::closes_nest, crate::proofs::Nested::apart_or_nested))]
 pub fn ends_laws()
-    ensures closes_nest { (code : List Instruction) (q r c d : ℕ) (i : Instruction) → q < r → slice_get code r ≡ Some i → part_of (meaning_of i.code) ≡ Opens
-        → close code q ≡ Some c → close code r ≡ Some d → r < c → d < c }
-    ensures apart_or_nested { (code : List Instruction) (q r c d : ℕ) (i : Instruction) → q < r → slice_get code r ≡ Some i → part_of (meaning_of i.code) ≡ Opens
-        → close code q ≡ Some c → close code r ≡ Some d → (c < r) ⊎ (d < c) }
+    ensures closes_nest { (profile : Profile) (code : List Instruction) (q r c d : ℕ) → q < r
+        → close profile code q ≡ Some c → close profile code r ≡ Some d → r < c → d < c }
+    ensures apart_or_nested { (profile : Profile) (code : List Instruction) (q r c d : ℕ) → q < r
+        → close profile code q ≡ Some c → close profile code r ≡ Some d → (c < r) ⊎ (d < c) }
 {}

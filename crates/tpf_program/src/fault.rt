@@ -1,10 +1,11 @@
-ghost use Rattle.std.specs.Prelude.{◌≡◌, ◌<◌, ◌≤◌, Some, length};
+ghost use Rattle.std.specs.Prelude.{◌≡◌, ◌↔◌, ◌⊎◌, ℕ, ◌<◌, ◌≤◌, List, Contains, Some, length};
 ghost use Rattle.word_base.specs.Words.{words_of};
 ghost use Rattle.word_base.specs.Rules.{first};
-ghost use Rattle.tpf_decode.specs.Profiles.{Base};
+ghost use Rattle.word_base.specs.declared.rule.Refusal.{Refusal};
+ghost use Rattle.tpf_decode.specs.Profiles.{Profile, Base};
 ghost use Rattle.tpf_decode.specs.Spelling.{words_between};
-ghost use Rattle.tpf_decode.specs.Refusals.{instruction_faults};
-ghost use Rattle.tpf_program.specs.Faults.{body_faults, early_of, early_rule};
+ghost use Rattle.tpf_decode.specs.Refusals.{header_faults, instruction_faults};
+ghost use Rattle.tpf_program.specs.Faults.{body_faults, program_faults, early_of, early_rule, IsBrokenInside};
 
 use crate::operands::word;
 use tpf_decode::{declaration_layout, instruction_form};
@@ -47,7 +48,7 @@ pub(crate) fn first_reached(bytes: &[u8], n: u32, at: u32, refusal: Refusal) -> 
     requires words { n ≤ length (words_of bytes.now) }
     requires size { n ≤ 65536 }
     requires refused { Some refusal ≡ first (instruction_faults Base at (words_between bytes.now at n)) }
-    ensures { first (body_faults 0 at (words_between bytes.now at n)) ≡ Some result }
+    ensures { first (body_faults Base 0 at (words_between bytes.now at n)) ≡ Some result }
 {
     let end = at + field(word(bytes, at), 30, 24);
     if refusal.place != end {
@@ -61,3 +62,11 @@ pub(crate) fn first_reached(bytes: &[u8], n: u32, at: u32, refusal: Refusal) -> 
         None => refusal,
     }
 }
+
+/// What holds of the rules of tokens that words break, for the proofs of callers: those of the head;
+/// and where the head breaks none those that the part at a place breaks which is reached, part by
+/// part. It does nothing when it runs.
+pub fn fault_laws()
+    ensures { (profile : Profile) (words : List ℕ) (r : Refusal)
+        → Contains (program_faults profile words) r ↔ (Contains (header_faults words) r ⊎ IsBrokenInside profile words r) }
+{}

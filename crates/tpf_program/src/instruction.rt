@@ -13,10 +13,15 @@ pub struct Instruction {
     pub controls: u32,
     /// How many operands it has. Those past it are the null operand.
     pub count: u8,
+    /// Its first operand.
     pub o0: Argument,
+    /// Its second operand.
     pub o1: Argument,
+    /// Its third operand.
     pub o2: Argument,
+    /// Its fourth operand.
     pub o3: Argument,
+    /// Its fifth operand.
     pub o4: Argument,
 }
 

@@ -172,7 +172,7 @@ fn declaration(
     requires layout { layout_of Base extent.code ≡ Some layout }
     requires form { form_of Base extent.code ≡ None }
     ensures refused { refusal_of result ≡ first (parts_faults extent.code extent.first (words_between bytes.now extent.first extent.end)) }
-    ensures spelled { IfOk result (λ d. SpellsItem at (Declares d) (words_between bytes.now at extent.end)) }
+    ensures spelled { IfOk result (λ d. SpellsItem Base at (Declares d) (words_between bytes.now at extent.end)) }
 {
     let (places, place) = declared_parts(bytes, extent, layout)?;
     let what = declare(
@@ -200,7 +200,7 @@ fn instruction(
     requires layout { layout_of Base extent.code ≡ None }
     requires form { form_of Base extent.code ≡ Some form }
     ensures refused { refusal_of result ≡ first (parts_faults extent.code extent.first (words_between bytes.now extent.first extent.end)) }
-    ensures spelled { IfOk result (λ i. SpellsItem at (Does i) (words_between bytes.now at extent.end)) }
+    ensures spelled { IfOk result (λ i. SpellsItem Base at (Does i) (words_between bytes.now at extent.end)) }
 {
     let roles = form.roles();
     let (places, _) = read_parts(bytes, extent.first, extent.end, extent.code, roles, 0)?;

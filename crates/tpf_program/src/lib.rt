@@ -4,9 +4,10 @@
 //! The definitions stand in `specs/`: `Program` for a program as contracts see it, `Spelling` for the
 //! words that spell it, `Faults` for the rules that the words break, `Declarations` for the rules on
 //! declarations, `StraightLine` for the form that is read, and `Extents` for the settings that fit it.
-//! What a lane of it does: `Opcodes` says what each opcode means, `Sizes` what is declared, `Values`
-//! what operands stand for, `Writes` what is written, `Views` and `Plans` which events an instruction
-//! makes, `Results` what it leaves, `Ends` which ends match, and `Bytecode` one step of the lane.
+//! `Uses` and `Nesting` have the rules on what is used and on structure. What a lane of it does: `Sizes`
+//! says what is declared, `Values` what operands stand for, `Writes` what is written, `Views` and `Plans`
+//! which events an instruction makes, `Results` what it leaves, `Ends` which ends match, and `Bytecode`
+//! one step of the lane.
 #![tactic(auto)]
 
 mod declaration;
@@ -22,8 +23,9 @@ mod rules;
 mod spelling;
 mod straight_line;
 
-pub use declaration::{Declaration, Declared, SharedKind, ViewKind};
+pub use declaration::{Declaration, Declared, SharedKind, ThreadGroup, ViewKind};
 pub use ends::ends_laws;
+pub use fault::fault_laws;
 pub use instruction::Instruction;
 pub use laws::bytecode_laws;
 pub use program::Program;

@@ -63,6 +63,9 @@ fn reads_a_store(rt: HostRuntime) -> Result<(), Fail> {
     assert_eq!(rt; program.instruction(0).o0.kind, Kind::Shared);
     assert_eq!(rt; program.instruction(0).o0.select, Select::Mask(15));
     assert_eq!(rt; program.instruction(0).o2.w, 4);
+    assert_eq!(rt; program.shared_words(0), 4);
+    assert_eq!(rt; program.shared_words(1), 0);
+    assert_eq!(rt; program.temps(), 0);
     Ok(())
 }
 

@@ -1,7 +1,11 @@
 ghost use Rattle.std.specs.Prelude.{◌≡◌, ◌<◌, ◌≤◌, Some, length, slice_get, IfOk};
+ghost use Rattle.word_base.specs.Settings.{axes};
+ghost use Rattle.tpf_program.specs.Declarations.{threads_in};
+ghost use Rattle.tpf_program.specs.Extents.{shared_extent, words_declared};
 ghost use Rattle.tpf_program.specs.Program.{empty, kept, unread};
+ghost use Rattle.tpf_program.specs.Sizes.{temps_declared, temps_of, elements_declared, elements_of, vectors_declared, vectors_of};
 
-use crate::declaration::Declared;
+use crate::declaration::{Declaration, Declared, SharedKind, ThreadGroup};
 use crate::instruction::Instruction;
 use node_pool::Pool;
 use std::alloc::Global;
@@ -21,7 +25,7 @@ pub struct Program {
 }
 
 impl Model for Program {
-    ghost use Rattle.std.specs.Prelude.{◌≡◌, ◌≤◌, length};
+    ghost use Rattle.std.specs.Prelude.{◌≡◌, ◌≤◌, [], length};
     ghost use Rattle.tpf_program.specs.Program.{Kept};
 
     ghost Value = { Kept };
@@ -32,6 +36,7 @@ impl Model for Program {
         declarations = p.declarations.list;
         constants = p.constants.list;
         instructions = p.instructions.list;
+        typed = [];
       };
       room = p.declarations.capacity;
     } };
@@ -41,6 +46,53 @@ impl Model for Program {
       instructions_room : p.instructions.capacity ≡ p.declarations.capacity;
       few_instructions : length p.instructions.list ≤ 65536;
     } };
+}
+
+/// The registers that a declaration names.
+fn temps_at(what: Declaration) -> u32
+    ensures { result ≡ temps_declared what }
+{
+    match what {
+        Declaration::Temps(count) => count,
+        _ => 0,
+    }
+}
+
+/// The elements that a declaration gives to an indexable register.
+fn elements_at(slot: u32, what: Declaration) -> u32
+    ensures { result ≡ elements_declared slot what }
+{
+    match what {
+        Declaration::Indexable {
+            slot: other,
+            count,
+            ..
+        } if other == slot => count,
+        _ => 0,
+    }
+}
+
+/// The vectors that a declaration gives to a constant buffer.
+fn vectors_at(slot: u32, what: Declaration) -> u32
+    ensures { result ≡ vectors_declared slot what }
+{
+    match what {
+        Declaration::Constants { slot: other, size } if other == slot => size,
+        _ => 0,
+    }
+}
+
+/// The words that a declaration gives to a slot of shared memory.
+fn words_at(slot: u32, what: Declaration) -> u64
+    ensures { result ≡ words_declared slot what }
+{
+    match what {
+        Declaration::Shared { slot: other, kind } if other == slot => match kind {
+            SharedKind::Raw { bytes } => u64::from(bytes / 4),
+            SharedKind::Structured { stride, count } => u64::from(stride / 4) * u64::from(count),
+        },
+        _ => 0,
+    }
 }
 
 impl Program {
@@ -102,6 +154,74 @@ impl Program {
         self.declarations.get(i)
     }
 
+    /// The number of registers r#: of the counts that are declared the first that is not 0, and 0 where
+    /// there is none.
+    pub fn temps(&self) -> u32
+        ensures { result ≡ temps_of self.now.shader.declarations }
+    {
+        for i in 0..self.declarations() {
+            let count = temps_at(self.declaration(i).what);
+            if count != 0 {
+                return count;
+            }
+        }
+        0
+    }
+
+    /// The elements of an indexable register x#: of the counts that are declared of it the first that is
+    /// not 0, and 0 where there is none.
+    pub fn elements(&self, slot: u32) -> u32
+        ensures { result ≡ elements_of slot self.now.shader.declarations }
+    {
+        for i in 0..self.declarations() {
+            let count = elements_at(slot, self.declaration(i).what);
+            if count != 0 {
+                return count;
+            }
+        }
+        0
+    }
+
+    /// The vectors of a constant buffer cb#: of the sizes that are declared of it the first that is not 0,
+    /// and 0 where there is none.
+    pub fn vectors(&self, slot: u32) -> u32
+        ensures { result ≡ vectors_of slot self.now.shader.declarations }
+    {
+        for i in 0..self.declarations() {
+            let count = vectors_at(slot, self.declaration(i).what);
+            if count != 0 {
+                return count;
+            }
+        }
+        0
+    }
+
+    /// The words of a slot of shared memory g#: of the sizes that are declared of it the first that is not
+    /// 0, and 0 where there is none.
+    pub fn shared_words(&self, slot: u32) -> u64
+        ensures { result ≡ shared_extent slot self.now.shader.declarations }
+    {
+        for i in 0..self.declarations() {
+            let words = words_at(slot, self.declaration(i).what);
+            if words != 0 {
+                return words;
+            }
+        }
+        0
+    }
+
+    /// The threads of the group: those of the first declaration of one, and none without one.
+    pub fn threads(&self) -> ThreadGroup
+        ensures { axes result.x result.y result.z ≡ threads_in self.now.shader.declarations }
+    {
+        for i in 0..self.declarations() {
+            if let Declaration::Group { x, y, z } = self.declaration(i).what {
+                return ThreadGroup { x, y, z };
+            }
+        }
+        ThreadGroup { x: 0, y: 0, z: 0 }
+    }
+
     /// The number of instructions, at most 65,536.
     pub fn instructions(&self) -> u32
         ensures count { result ≡ length self.now.shader.instructions }
@@ -116,6 +236,13 @@ impl Program {
         ensures { slice_get self.now.shader.instructions i ≡ Some result }
     {
         self.instructions.get(i)
+    }
+
+    /// The number of words of the immediate constant buffers.
+    pub fn icb_words(&self) -> u32
+        ensures { result ≡ length self.now.shader.constants }
+    {
+        self.constants.len()
     }
 
     /// The word with that number of the immediate constant buffers, counted from 0.

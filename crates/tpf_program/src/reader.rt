@@ -3,6 +3,7 @@ ghost use Rattle.word_base.specs.Rules.{HaltsBy, IsFirst, first};
 ghost use Rattle.word_base.specs.Words.{words_of};
 ghost use Rattle.tpf_decode.specs.Refusals.{header_faults};
 ghost use Rattle.tpf_decode.specs.Spelling.{words_between};
+ghost use Rattle.tpf_decode.specs.Profiles.{Base};
 ghost use Rattle.tpf_program.specs.Faults.{body_faults, program_faults};
 ghost use Rattle.tpf_program.specs.Program.{empty};
 ghost use Rattle.tpf_program.specs.Spelling.{Spells, listed};
@@ -36,9 +37,8 @@ const OUTSIDE: Refusal = Refusal {
 pub fn read(alloc: Global, bytes: &[u8]) -> Result<Program, Halt>
     requires whole { length bytes.now % 4 ≡ 0 }
     requires head { 8 ≤ length bytes.now }
-    requires size { length bytes.now ≤ 16777216 }
     ensures ok { IfOk result (λ p. IsStraightLine (words_of bytes.now) p.shader) }
-    ensures sound { OnOk result (program_faults (words_of bytes.now) ≡ []) }
+    ensures sound { OnOk result (program_faults Base (words_of bytes.now) ≡ []) }
     ensures halted { IfErr result (HaltsBy (IsRefused (words_of bytes.now))) }
 {
     first_laws();
@@ -68,10 +68,9 @@ pub fn read(alloc: Global, bytes: &[u8]) -> Result<Program, Halt>
 pub fn read_into(program: &mut Program, bytes: &[u8]) -> Result<(), Refusal>
     requires whole { length bytes.now % 4 ≡ 0 }
     requires head { 8 ≤ length bytes.now }
-    requires size { length bytes.now ≤ 16777216 }
     requires room { slice_index (words_of bytes.now) 1 ≤ program.old.room }
     ensures ok { OnOk result (IsStraightLine (words_of bytes.now) program.new.shader) }
-    ensures sound { OnOk result (program_faults (words_of bytes.now) ≡ []) }
+    ensures sound { OnOk result (program_faults Base (words_of bytes.now) ≡ []) }
     ensures refused { IfErr result (IsFirst (IsRefused (words_of bytes.now))) }
     ensures empty { IfErr result (λ r. program.new.shader ≡ empty) }
     ensures room { program.new.room ≡ program.old.room }
@@ -91,7 +90,7 @@ fn read_over(program: &mut Program, bytes: &[u8]) -> Result<(), Refusal>
     requires head { 8 ≤ length bytes.now }
     requires room { slice_index (words_of bytes.now) 1 ≤ program.old.room }
     ensures ok { OnOk result (IsStraightLine (words_of bytes.now) program.new.shader) }
-    ensures sound { OnOk result (program_faults (words_of bytes.now) ≡ []) }
+    ensures sound { OnOk result (program_faults Base (words_of bytes.now) ≡ []) }
     ensures refused { IfErr result (IsFirst (IsRefused (words_of bytes.now))) }
     ensures room { program.new.room ≡ program.old.room }
 {
@@ -108,7 +107,7 @@ fn fill(program: &mut Program, bytes: &[u8], words: u32) -> Result<(), Refusal>
     requires count { words ≡ slice_index (words_of bytes.now) 1 }
     requires room { words ≤ program.old.room }
     ensures ok { OnOk result (IsStraightLine (words_of bytes.now) program.new.shader) }
-    ensures sound { OnOk result (program_faults (words_of bytes.now) ≡ []) }
+    ensures sound { OnOk result (program_faults Base (words_of bytes.now) ≡ []) }
     ensures refused { IfErr result (IsFirst (IsRefused (words_of bytes.now))) }
     ensures room { program.new.room ≡ program.old.room }
 {
@@ -127,10 +126,10 @@ pub(crate) fn spelled(program: &mut Program, bytes: &[u8], words: u32) -> Result
     requires head { None ≡ first (header_faults (words_of bytes.now)) }
     requires count { words ≡ slice_index (words_of bytes.now) 1 }
     requires room { words ≤ program.old.room }
-    ensures ok { OnOk result (Spells program.new.shader (words_of bytes.now)) }
+    ensures ok { OnOk result (Spells Base program.new.shader (words_of bytes.now)) }
     ensures size { OnOk result (program.new.shader.words ≤ 65536) }
-    ensures sound { OnOk result (first (program_faults (words_of bytes.now)) ≡ None) }
-    ensures refused { IfErr result (λ r. first (program_faults (words_of bytes.now)) ≡ Some r) }
+    ensures sound { OnOk result (first (program_faults Base (words_of bytes.now)) ≡ None) }
+    ensures refused { IfErr result (λ r. first (program_faults Base (words_of bytes.now)) ≡ Some r) }
     ensures room { program.new.room ≡ program.old.room }
 {
     program.begin(words);
@@ -152,7 +151,7 @@ fn take_piece(program: &mut Program, bytes: &[u8], at: u32) -> Result<u32, Refus
     ensures words { IfOk result (λ end. program.new.shader.words ≡ program.old.shader.words) }
     ensures within { IfOk result (λ end. (at < end) × (end ≤ program.old.shader.words)) }
     ensures read { IfOk result (λ end. IsReadTo (words_of bytes.now) end program.new.shader) }
-    ensures refused { IfErr result (λ r. first (body_faults 0 at (words_between bytes.now at program.old.shader.words)) ≡ Some r) }
+    ensures refused { IfErr result (λ r. first (body_faults Base 0 at (words_between bytes.now at program.old.shader.words)) ≡ Some r) }
     ensures room { program.new.room ≡ program.old.room }
 {
     let (piece, end) = match read_piece(bytes, program.words, at) {
@@ -178,7 +177,9 @@ fn take_piece(program: &mut Program, bytes: &[u8], at: u32) -> Result<u32, Refus
 
 fn add_declaration(program: &mut Program, declared: Declared)
     requires { length program.now.shader.declarations < program.now.room }
-    ensures { program.new ≡ record program.old { shader = record program.old.shader { declarations = program.old.shader.declarations ++ declared ∷ [] } } }
+    ensures { program.new ≡ record program.old {
+      shader = record program.old.shader { declarations = program.old.shader.declarations ++ declared ∷ [] };
+    } }
 {
     program.declarations.push(declared);
 }
@@ -186,7 +187,9 @@ fn add_declaration(program: &mut Program, declared: Declared)
 fn add_instruction(program: &mut Program, instruction: Instruction)
     requires room { length program.now.shader.instructions < program.now.room }
     requires few { length program.now.shader.instructions < 65536 }
-    ensures { program.new ≡ record program.old { shader = record program.old.shader { instructions = program.old.shader.instructions ++ instruction ∷ [] } } }
+    ensures { program.new ≡ record program.old {
+      shader = record program.old.shader { instructions = program.old.shader.instructions ++ instruction ∷ [] };
+    } }
 {
     program.instructions.push(instruction);
 }

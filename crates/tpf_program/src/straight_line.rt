@@ -1,7 +1,5 @@
 ghost use Rattle.std.specs.Prelude.{◌≡◌, ◌↔◌, ◌+◌, ◌<◌, ◌≤◌, length, take, slice_get, Some, nat_lt, not, ◌&&◌, ◌||◌, true, [], IsTrue};
 ghost use Rattle.std.specs.List.{list_all, list_any};
-ghost use Rattle.tpf_program.specs.Sizes.{temps_declared, temps_of};
-ghost use Rattle.tpf_program.specs.Extents.{words_declared, shared_extent};
 ghost use Rattle.tpf_program.specs.Writes.{in_mask};
 ghost use Rattle.tpf_program.specs.Declarations.{is_group, is_within, has_sizes, shared_bytes, register_count, same_thing, declares_group};
 ghost use Rattle.tpf_program.specs.StraightLine.{is_built, is_register, is_destination, is_source, is_move, is_sum, is_saturated, is_place, is_address, is_inside, is_store, is_built_in};
@@ -57,29 +55,6 @@ fn builds_all(program: &Program) -> bool
     true
 }
 
-/// The registers that a declaration names.
-fn temps_at(what: Declaration) -> u32
-    ensures { result ≡ temps_declared what }
-{
-    match what {
-        Declaration::Temps(count) => count,
-        _ => 0,
-    }
-}
-
-/// The number of registers of the first declaration of some.
-fn temps(program: &Program) -> u32
-    ensures { result ≡ temps_of program.now.shader.declarations }
-{
-    for i in 0..program.declarations() {
-        let count = temps_at(program.declaration(i).what);
-        if count != 0 {
-            return count;
-        }
-    }
-    0
-}
-
 /// Whether an operand is one of so many registers.
 fn names_register(temps: u32, operand: Argument) -> bool
     ensures { result ≡ is_register temps operand }
@@ -100,39 +75,13 @@ fn is_read(temps: u32, operand: Argument) -> bool
     !operand.negate && (matches!(operand.kind, Kind::Immediate) || names_register(temps, operand))
 }
 
-/// The words that a declaration gives to a slot of shared memory.
-fn words_at(slot: u32, what: Declaration) -> u64
-    ensures { result ≡ words_declared slot what }
-{
-    match what {
-        Declaration::Shared { slot: other, kind } if other == slot => match kind {
-            SharedKind::Raw { bytes } => u64::from(bytes / 4),
-            SharedKind::Structured { stride, count } => u64::from(stride / 4) * u64::from(count),
-        },
-        _ => 0,
-    }
-}
-
-/// The words of a slot of shared memory.
-fn extent(slot: u32, program: &Program) -> u64
-    ensures { result ≡ shared_extent slot program.now.shader.declarations }
-{
-    for i in 0..program.declarations() {
-        let words = words_at(slot, program.declaration(i).what);
-        if words != 0 {
-            return words;
-        }
-    }
-    0
-}
-
 /// Whether an operand is shared memory that is declared.
 fn is_memory(program: &Program, operand: Argument) -> bool
     ensures { result ≡ is_place program.now.shader.declarations operand }
 {
     matches!(operand.kind, Kind::Shared)
         && matches!(operand.select, Select::Mask(_))
-        && extent(operand.slot, program) > 0
+        && program.shared_words(operand.slot) > 0
 }
 
 /// Whether an operand is an address that the tokens name.
@@ -180,8 +129,8 @@ fn stores(program: &Program, instruction: Instruction) -> bool
     code == STORE
         && is_memory(program, o0)
         && names_address(o1)
-        && is_read(temps(program), o2)
-        && are_inside(extent(o0.slot, program), o1.x / 4, o0.select)
+        && is_read(program.temps(), o2)
+        && are_inside(program.shared_words(o0.slot), o1.x / 4, o0.select)
 }
 
 /// Whether an instruction is a move or a sum of the form, where so many registers are declared.
@@ -207,7 +156,7 @@ fn does(program: &Program, instruction: Instruction) -> bool
     ensures { result ≡ is_built_in program.now.shader.declarations instruction }
 {
     matches!(instruction.code, RETURN | NOTHING)
-        || computes(temps(program), instruction)
+        || computes(program.temps(), instruction)
         || stores(program, instruction)
 }
 

@@ -215,6 +215,8 @@ fn passes_over_what_is_free(rt: HostRuntime) -> Result<(), Fail> {
     ];
     let program = read_words(&rt, rt.alloc(), &words)??;
     assert_eq!(rt; program.words(), 18);
+    assert_eq!(rt; program.temps(), 1);
+    assert_eq!(rt; program.threads(), ThreadGroup { x: 1, y: 2, z: 3 });
     assert_eq!(rt; program.declarations(), 2);
     assert_eq!(rt; program.instructions(), 2);
     assert_eq!(rt; program.declaration(0).place, 5);

@@ -24,6 +24,7 @@ returns-in-Declaration-clause-read c =
       declarations = ap (λ s. s.shader.declarations) c.add_declaration.ensures;
       instructions = ap (λ s. s.shader.instructions) c.add_declaration.ensures ∙ sym (append-nil p.instructions);
       constants = ap (λ s. s.shader.constants) c.add_declaration.ensures ∙ sym (append-nil p.constants);
+      typed = ap (λ s. s.shader.typed) c.add_declaration.ensures ∙ sym (append-nil p.typed);
     } in
     part_read w at end (Declares c.in-Declaration.declared) p c.add_declaration.new.program.shader c.requires.head c.in-Ok.ensures.within.0 fits c.requires.read
     (subst (λ x. IsPiece w at end x) c.in-Declaration.is c.in-Ok.ensures.spelled) adds inside c.requires.words sound
@@ -43,6 +44,7 @@ returns-in-Instruction-clause-read c =
       declarations = ap (λ s. s.shader.declarations) c.add_instruction.ensures ∙ sym (append-nil p.declarations);
       instructions = ap (λ s. s.shader.instructions) c.add_instruction.ensures;
       constants = ap (λ s. s.shader.constants) c.add_instruction.ensures ∙ sym (append-nil p.constants);
+      typed = ap (λ s. s.shader.typed) c.add_instruction.ensures ∙ sym (append-nil p.typed);
     } in
     part_read w at end (Does c.in-Instruction.instruction) p c.add_instruction.new.program.shader c.requires.head c.in-Ok.ensures.within.0 fits c.requires.read
     (subst (λ x. IsPiece w at end x) c.in-Instruction.is c.in-Ok.ensures.spelled) adds inside c.requires.words sound
@@ -63,6 +65,7 @@ returns-in-Constants-clause-read c =
       declarations = ap (λ s. s.shader.declarations) c.add_constants.ensures;
       instructions = ap (λ s. s.shader.instructions) c.add_constants.ensures ∙ sym (append-nil p.instructions);
       constants = ap (λ s. s.shader.constants) c.add_constants.ensures ∙ ap (λ l. p.constants ++ l) (sym (append-nil values));
+      typed = ap (λ s. s.shader.typed) c.add_constants.ensures ∙ sym (append-nil p.typed);
     } in
     part_read w at end (Lists at values) p c.add_constants.new.program.shader c.requires.head c.in-Ok.ensures.within.0 fits c.requires.read
     (subst (λ x. IsPiece w at end x) c.in-Constants.is c.in-Ok.ensures.spelled) adds inside c.requires.words sound
@@ -83,6 +86,7 @@ returns-in-Nothing-clause-read c =
       declarations = sym (append-nil p.declarations);
       instructions = sym (append-nil p.instructions);
       constants = sym (append-nil p.constants);
+      typed = sym (append-nil p.typed);
     } in
     part_read w at end (Skips s.0 s.1) p p c.requires.head c.in-Ok.ensures.within.0 fits c.requires.read
     s.2 adds inside c.requires.words sound

@@ -1,0 +1,15 @@
+use Rattle.std.proofs.Common.{sym, ◌∙◌}
+use Rattle.tpf_program.specs.Sizes.{vectors_declared}
+use Rattle.tpf_program.proofs.Each.{size_here, size_later}
+use Rattle.tpf_program.proofs.program.Program.vectors.Goals as goal
+
+pub returns-then-count-ne0 : goal.returns-then-count-ne0
+returns-then-count-ne0 c =
+    c.vectors_at-count.ensures
+    ∙ size_here (vectors_declared c.args.slot) c.args.self.now.shader.declarations c.loop-i.i c.declaration.result c.declaration.ensures
+    (λ e. c.if-count-ne0.true (c.vectors_at-count.ensures ∙ e)) c.loop-i.invariant
+
+pub loop-i-preserved : goal.loop-i-preserved
+loop-i-preserved c =
+    size_later (vectors_declared c.args.slot) c.args.self.now.shader.declarations c.loop-i.i c.declaration.result c.declaration.ensures
+    (sym c.vectors_at-count.ensures ∙ c.if-count-ne0.false) c.loop-i.invariant
