@@ -1,4 +1,5 @@
 pub mod Lasting
+pub mod LastBytes
 pub mod Wrote
 pub mod Counting
 pub mod Listing

@@ -1,20 +1,23 @@
 -- What a call may leave behind: a count of faults, and bytes where they are told.
-use Rattle.std.specs.Prelude.{◌≡◌, ℕ, ◌+◌, ◌-◌, ◌<◌, ◌≤◌, ◌^◌, ◌⊎◌, min, List, [], ◌∷◌, ◌++◌, Option, Some, None, Result, Ok, Err, OnErr, length, take, refl}
+use Rattle.std.specs.Prelude.{◌≡◌, ℕ, ◌+◌, ◌-◌, ◌<◌, ◌≤◌, ◌^◌, ◌⊎◌, min, List, [], ◌∷◌, ◌++◌, Option, Some, None, Result, Ok, Err, OnOk, OnErr, length, take, refl}
 
 -- The count rose, or stands at the last value of its 64 bits.
 abbrev pub Rose : ℕ → ℕ → Type 0
 Rose before now = min (before + 1) (2 ^ 64 - 1) ≤ now
 
--- A call fails only where the count rose, or for that other reason. The count never falls, and stays below 2 ^ 64.
+-- A call that succeeds leaves the count. One that fails raised it, or failed for that other reason. The count never falls, and stays
+-- below 2 ^ 64.
 pub record HasCauseOr {T E : Type 0} (other : Type 0) (before now : ℕ) (result : Result T E) : Type 0 where
   pub later : before ≤ now
   pub within : before < 2 ^ 64 → now < 2 ^ 64
+  pub kept : OnOk result (now ≡ before)
   pub failed : OnErr result (Rose before now ⊎ other)
 
--- a call fails only where the count rose
+-- a call leaves the count, or fails and raised it
 pub record HasCause {T E : Type 0} (before now : ℕ) (result : Result T E) : Type 0 where
   pub later : before ≤ now
   pub within : before < 2 ^ 64 → now < 2 ^ 64
+  pub kept : OnOk result (now ≡ before)
   pub failed : OnErr result (Rose before now)
 
 -- where bytes are told: those before the call, and these behind them

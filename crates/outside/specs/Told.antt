@@ -128,6 +128,32 @@ abbrev pub Writes : {E : Type 0} → Told → List ℕ → Result ℕ E → Told
 Writes old piece (Ok n) new = WritesFront old new n piece
 Writes old piece (Err e) new = KeepsAll old new
 
+-- The last output of a desk gained these bytes, and nothing else changed but the count.
+pub record LastGained (old new : Told) (bytes : List ℕ) : Type 0 where
+  pub kept : KeepsInput old new
+  pub begun : new.begun ≡ old.begun
+  pub outputs : GainsLast old.outputs new.outputs bytes
+
+-- the bytes of the last output, where the outputs are told and there is one
+abbrev pub last_bytes : List Output → Option (List ℕ)
+last_bytes [] = None
+last_bytes (output ∷ []) = Some output.bytes
+last_bytes (output ∷ next ∷ rest) = last_bytes (next ∷ rest)
+
+abbrev pub bytes_of_last : Option (List Output) → Option (List ℕ)
+bytes_of_last None = None
+bytes_of_last (Some outputs) = last_bytes outputs
+
+-- the outputs, the last one without its bytes
+abbrev pub with_empty_last : List Output → List Output
+with_empty_last [] = []
+with_empty_last (output ∷ []) = record { name = output.name; bytes = [] } ∷ []
+with_empty_last (output ∷ next ∷ rest) = output ∷ with_empty_last (next ∷ rest)
+
+-- what is told beside the bytes of the last output and the count
+abbrev pub beside_last : Told → Told
+beside_last told = record told { outputs = option_map with_empty_last told.outputs; faults = 0 }
+
 -- Examples: a name is looked up, and bytes go to the last output alone.
 abbrev file : List ℕ → List ℕ → File
 file name bytes = record { name = name; bytes = bytes }
@@ -143,3 +169,9 @@ no_file = refl
 
 pub last_output : with_last (output (97 ∷ []) (1 ∷ []) ∷ output (98 ∷ []) (2 ∷ []) ∷ []) (3 ∷ []) ≡ output (97 ∷ []) (1 ∷ []) ∷ output (98 ∷ []) (2 ∷ 3 ∷ []) ∷ []
 last_output = refl
+
+pub last_of_two : last_bytes (output (97 ∷ []) (1 ∷ []) ∷ output (98 ∷ []) (2 ∷ []) ∷ []) ≡ Some (2 ∷ [])
+last_of_two = refl
+
+pub emptied_last : with_empty_last (output (97 ∷ []) (1 ∷ []) ∷ output (98 ∷ []) (2 ∷ []) ∷ []) ≡ output (97 ∷ []) (1 ∷ []) ∷ output (98 ∷ []) [] ∷ []
+emptied_last = refl

@@ -10,6 +10,7 @@
 mod desk;
 mod files;
 mod front;
+mod last_output;
 mod laws;
 mod memory_desk;
 mod memory_sink;
@@ -21,6 +22,7 @@ mod system;
 mod words;
 
 pub use desk::Desk;
+pub use last_output::LastOutput;
 pub use laws::outside_laws;
 pub use memory_desk::MemoryDesk;
 pub use memory_sink::MemorySink;

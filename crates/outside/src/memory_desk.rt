@@ -32,6 +32,10 @@ impl MemoryDesk {
     /// A desk without files, for `outputs` outputs whose names and bytes come to at most `room`
     /// bytes. The calls whose numbers, counted from 1 over all reading and writing, stand in
     /// `failing` fail.
+    ///
+    /// # Errors
+    ///
+    /// `NoMemory` where the room cannot be had.
     pub fn make(
         alloc: Global,
         outputs: u32,
@@ -40,19 +44,21 @@ impl MemoryDesk {
     ) -> Result<MemoryDesk, NoMemory>
         ensures { IfOk result (λ d. d ≡ record { files = []; reading = None; outputs = []; spare = outputs; room = room; counts = no_calls failing.items }) }
     {
-        match Outputs::new(alloc, outputs, room) {
-            Ok(outputs) => Ok(MemoryDesk {
-                alloc,
-                files: Files::new(alloc),
-                outputs,
-                plan: Plan::new(failing),
-            }),
-            Err(e) => Err(e),
-        }
+        let outputs = Outputs::new(alloc, outputs, room)?;
+        Ok(MemoryDesk {
+            alloc,
+            files: Files::new(alloc),
+            outputs,
+            plan: Plan::new(failing),
+        })
     }
 
     /// Adds a file, or gives the file of that name new bytes. The bytes left of a file that is being
-    /// read stay, and after `NoMemory` the desk is as it was.
+    /// read stay.
+    ///
+    /// # Errors
+    ///
+    /// `NoMemory` where the bytes or the name cannot be kept. The desk is as it was then.
     pub fn add(&mut self, name: &str, bytes: &[u8]) -> Result<(), NoMemory>
         ensures ok { OnOk result (self.new ≡ record self.old { files = with_file self.old.files name.now bytes.now }) }
         ensures err { OnErr result (self.new ≡ self.old) }

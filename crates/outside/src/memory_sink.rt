@@ -27,6 +27,10 @@ impl Model for MemorySink {
 impl MemorySink {
     /// A sink for `room` bytes. The writes whose numbers, counted from 1, stand in `failing` fail.
     /// Memory is taken here alone.
+    ///
+    /// # Errors
+    ///
+    /// `NoMemory` where the room cannot be had.
     pub fn make(alloc: Global, room: u32, failing: Vec<u64>) -> Result<MemorySink, NoMemory>
         ensures { IfOk result (λ s. s ≡ record { written = []; room = room; counts = no_calls failing.items }) }
     {
@@ -52,6 +56,8 @@ impl Sink for MemorySink {
     ghost written = { λ s. Some s.written };
 
     ghost faults = { λ s. s.counts.faults };
+
+    ghost kept = { λ s. tt };
 
     /// Takes the whole piece, or fails where the plan says so or the room is too short.
     fn write(&mut self, piece: &[u8]) -> Result<usize, Failed>

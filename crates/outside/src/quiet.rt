@@ -104,6 +104,8 @@ impl Sink for QuietSink {
 
     ghost faults = { λ s. 0 };
 
+    ghost kept = { λ s. tt };
+
     /// Takes the whole piece and drops it.
     fn write(&mut self, piece: &[u8]) -> Result<usize, Failed>
         ensures bytes { Takes None piece.now result None }

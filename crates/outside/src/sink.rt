@@ -1,4 +1,4 @@
-ghost use Rattle.std.specs.Prelude.{ℕ, List, Option};
+ghost use Rattle.std.specs.Prelude.{◌≡◌, ℕ, List, Option};
 ghost use Rattle.outside.specs.Causes.{HasCause, Takes};
 
 use thiserror::Error;
@@ -16,9 +16,19 @@ pub trait Sink {
     /// How many calls failed. The count stays at the last value of 64 bits.
     ghost faults: { Self → ℕ };
 
+    /// What no write changes. A sink that writes to a part of something says here what the rest is.
+    ghost Kept: { Type 0 } = { Unit {0} };
+
+    ghost kept: { Self → Self.Kept };
+
     /// Takes bytes from the front of `piece`, and gives their number: not 0 where `piece` has some.
-    /// Fails only where the count of faults rises, and then writes nothing.
+    /// Where it succeeds, the count of faults stays.
+    ///
+    /// # Errors
+    ///
+    /// `Failed` only where the count of faults rises. Nothing is written then.
     fn write(&mut self, piece: &[u8]) -> Result<usize, Failed>
         ensures bytes { Takes (written self.old) piece.now result (written self.new) }
-        ensures cause { HasCause (faults self.old) (faults self.new) result };
+        ensures cause { HasCause (faults self.old) (faults self.new) result }
+        ensures kept { kept self.new ≡ kept self.old };
 }

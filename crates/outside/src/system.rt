@@ -190,6 +190,8 @@ impl Sink for StdSink {
 
     ghost faults = { λ s. s };
 
+    ghost kept = { λ s. tt };
+
     /// Writes to the stream, and flushes it.
     fn write(&mut self, piece: &[u8]) -> Result<usize, Failed>
         ensures bytes { Takes None piece.now result None }
