@@ -1,6 +1,6 @@
 -- When all bytes of a file have come.
 use Rattle.std.proofs.Common.{◌≡◌, ℕ, ◌<◌, ◌≤◌, List, [], ◌++◌, length, take, drop, refl, sym, ap, ◌∙◌, subst, rules, append_assoc}
-use Rattle.std.specs.Prelude.{Some, None, Option, IsSome}
+use Rattle.std.specs.Prelude.{Some, None, Option, IsSome, Result, Ok, Err, IfOk}
 use Rattle.std.proofs.Common.{arith}
 use Rattle.std.proofs.lemmas.List.{length-take, take_at, drop_at, take_all, drop_all, append-nil, take-append-drop}
 use Rattle.outside.specs.Told.{File, Fills, StartsFile}
@@ -55,3 +55,7 @@ came_ended None new bytes c lt = subst NothingLeft (sym c) tt
 came_ended (Some xs) new bytes c lt =
     let short : length xs ≤ most_read = omega (arith, ap length c.0, length-take 16777217 xs) in
     subst NothingLeft (sym c.1) (drop_all most_read xs short)
+
+pub left_ended : {V E : Type 0} (items : V → List ℕ) (start new : Option (List ℕ)) (result : Result V E) → IfOk result (λ b. CameWhole start (items b) new) → IfOk result (λ b. length (items b) < most_read → NothingLeft new)
+left_ended items start new (Ok b) whole = came_ended start new (items b) whole
+left_ended items start new (Err e) whole = tt

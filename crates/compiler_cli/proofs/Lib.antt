@@ -3,3 +3,4 @@ pub mod Fronts
 pub mod Parts
 pub mod Runs
 pub mod OneByte
+pub mod Quiet

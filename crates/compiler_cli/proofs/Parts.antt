@@ -1,11 +1,8 @@
 -- Lists in pieces.
 use Rattle.std.proofs.Common.{◌≡◌, ℕ, ◌+◌, ◌-◌, ◌*◌, ◌≤◌, List, [], ◌∷◌, ◌++◌, length, take, drop, refl, sym, ap, ◌∙◌, subst, arith, append_assoc, length-append, length-drop}
-use Rattle.std.specs.Prelude.{Some, None, Option}
 use Rattle.std.proofs.Math.Seq.{take-add, take-append-add}
 use Rattle.std.proofs.lemmas.List.{take_rest, take-take, take-append-le, take-append-drop, append-nil, length-take-le}
 use Rattle.word_base.specs.Words.{bytes_of, bytes_of_word}
-use Rattle.outside.specs.Told.{Told, Output, KeepsAll, WritesFront, GainsLast, with_last}
-use Rattle.compiler_cli.specs.Streams.{LastGained}
 
 -- the rest of a slice, as code writes it
 pub rest_is : (xs : List ℕ) (n k : ℕ) → take n xs ++ take k (take (length xs - n) (drop n xs)) ≡ take (n + k) xs
@@ -17,12 +14,6 @@ range_is xs n end h = let e : n + (end - n) ≡ end = omega arith in sym (take-a
 
 pub range_length : (xs : List ℕ) (n end : ℕ) → n ≤ end → end ≤ length xs → length (take (end - n) (drop n xs)) ≡ end - n
 range_length xs n end h k = let d : length (drop n xs) ≡ length xs - n = length-drop n xs in length-take-le (end - n) (drop n xs) (omega (arith, d, h, k))
-
--- a front of a range
-pub part_is : (xs : List ℕ) (n end m : ℕ) → n ≤ end → end ≤ length xs → m ≤ length (take (end - n) (drop n xs)) → take n xs ++ take m (take (end - n) (drop n xs)) ≡ take (n + m) xs
-part_is xs n end m h k l =
-    let e = range_length xs n end h k in
-    ap (λ ys. take n xs ++ ys) (take-take m (end - n) (drop n xs) (omega (arith, e, l))) ∙ sym (take-add n m xs)
 
 -- ---- words
 
@@ -51,40 +42,3 @@ words_part words n end m h l =
 
 pub filled_range : (words buffer : List ℕ) (n end : ℕ) → n ≤ end → end ≤ length words → take (4 * length (take (end - n) (drop n words))) buffer ≡ bytes_of (take (end - n) (drop n words)) → take (4 * (end - n)) buffer ≡ bytes_of (take (end - n) (drop n words))
 filled_range words buffer n end le fits e = subst (λ m. take (4 * m) buffer ≡ bytes_of (take (end - n) (drop n words))) (range_length words n end le fits) e
-
--- ---- what a desk's last output gained, one piece after the other
-
-pub last_gained_on : ((old mid new : Option (List Output)) (a b : List ℕ) → GainsLast old mid a → GainsLast mid new b → GainsLast old new (a ++ b))
-    → (old mid new : Told) (a b c : List ℕ) → LastGained old mid a → LastGained mid new b → a ++ b ≡ c → LastGained old new c
-last_gained_on twice old mid new a b c g h e = subst (LastGained old new) e (record {
-  kept = record { files = h.kept.files ∙ g.kept.files; left = h.kept.left ∙ g.kept.left; reading = h.kept.reading ∙ g.kept.reading };
-  begun = h.begun ∙ g.begun;
-  outputs = twice old.outputs mid.outputs new.outputs a b g.outputs h.outputs;
-})
-
--- a write that takes n bytes
-pub last_wrote : (old new : Told) (n : ℕ) (piece : List ℕ) → WritesFront old new n piece → LastGained old new (take n piece)
-last_wrote old new n piece w = record { kept = w.kept; begun = w.begun; outputs = w.outputs }
-
-pub last_gained_still : (old mid new : Told) (a : List ℕ) → LastGained old mid a → KeepsAll mid new → LastGained old new a
-last_gained_still old mid new a g k = record {
-  kept = record { files = k.files ∙ g.kept.files; left = k.left ∙ g.kept.left; reading = k.reading ∙ g.kept.reading };
-  begun = k.begun ∙ g.begun;
-  outputs = subst (λ outputs. GainsLast old.outputs outputs a) (sym k.outputs) g.outputs;
-}
-
-last_same : (outputs : List Output) → with_last outputs [] ≡ outputs
-last_same [] = refl
-last_same (o ∷ []) = ap (λ (bytes : List ℕ). record { name = o.name; bytes = bytes } ∷ []) (append-nil o.bytes)
-last_same (o ∷ p ∷ rest) = ap (λ xs. o ∷ xs) (last_same (p ∷ rest))
-
-pub gains_nothing : (outputs : Option (List Output)) → GainsLast outputs outputs []
-gains_nothing None = refl
-gains_nothing (Some outputs) = ap Some (sym (last_same outputs))
-
-pub last_gained_none : (told : Told) → LastGained told told []
-last_gained_none told = record {
-  kept = record { files = refl; left = refl; reading = refl };
-  begun = refl;
-  outputs = gains_nothing told.outputs;
-}

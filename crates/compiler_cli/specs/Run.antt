@@ -60,12 +60,13 @@ pub record Makes (old new : Told) (name words : List ℕ) : Type 0 where
   pub meant : IsMeant old.files name words
   pub left : NothingLeft new.left
 
-pub record IsRefusedBy (old : Told) (name : List ℕ) (r : Refusal) : Type 0 where
+pub record IsRefusedBy (old new : Told) (name : List ℕ) (r : Refusal) : Type 0 where
   pub there : IsMissing old.files name → ⊥
+  pub quiet : new.faults ≡ old.faults
   pub first : IsFirstIn old.files name r
 
 abbrev pub FailsBy : Told → Told → List ℕ → Failure → Type 0
-FailsBy old new name (failure.Refused r) = IsRefusedBy old name r
+FailsBy old new name (failure.Refused r) = IsRefusedBy old new name r
 FailsBy old new name failure.Fault = Rose old.faults new.faults ⊎ IsMissing old.files name
 FailsBy old new name failure.NoMemory = Unit {0}
 
@@ -114,9 +115,10 @@ pub record Succeeds (job : Job) (old new : Outside) : Type 0 where
   pub left : NothingLeft new.desk.left
   pub written : Delivers job.output old.desk new.desk old.out new.out (bytes_of target)
 
--- This is the first broken rule of the input, and nothing was written.
+-- No fault was counted in reading, this is the first broken rule of the input, and nothing was written.
 pub record Refuses (job : Job) (old new : Outside) (r : Refusal) : Type 0 where
   pub there : IsMissing old.desk.files job.input → ⊥
+  pub quiet : new.desk.faults ≡ old.desk.faults
   pub first : IsFirstIn old.desk.files job.input r
   pub untouched : Untouched old.desk new.desk old.out new.out
 
@@ -183,3 +185,12 @@ Answers words old new err err' status.NoMemory =
 -- Where a rule of the input is broken, the run is refused, unless memory or the desk failed.
 abbrev pub IsRefused : Outside → Outside → Status → Type 0
 IsRefused old new result = (result ≡ status.Refused) ⊎ ((result ≡ status.NoMemory) ⊎ Rose old.desk.faults new.desk.faults)
+
+-- A desk and a stream of the output that count no faults.
+pub record IsQuiet (seen : Outside) : Type 0 where
+  pub desk : seen.desk.faults ≡ 0
+  pub out : seen.faults ≡ 0
+
+-- the file that the words ask for is there, where the desk tells its files
+abbrev pub HasInput : List (List ℕ) → Told → Type 0
+HasInput words desk = (job : Job) → job_of words ≡ Some job → IsMissing desk.files job.input → ⊥

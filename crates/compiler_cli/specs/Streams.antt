@@ -1,7 +1,7 @@
 -- What the loops leave that read a file whole and write bytes whole.
 use Rattle.std.specs.Prelude.{◌≡◌, ℕ, ◌≤◌, List, [], Option, Some, None, Result, Ok, Err, length, take, drop}
 use Rattle.outside.specs.Causes.{Gained, GainedPart}
-use Rattle.outside.specs.Told.{File, Told, KeepsInput, GainsLast, file_of}
+use Rattle.outside.specs.Told.{File, Told, LastGained, file_of}
 use Rattle.compiler_cli.specs.declared.streams.Stop.{Stop}
 use Rattle.compiler_cli.specs.declared.streams.Stop.TheVariants.{Fault, NoMemory}
 
@@ -9,12 +9,6 @@ use Rattle.compiler_cli.specs.declared.streams.Stop.TheVariants.{Fault, NoMemory
 abbrev pub WritesBytes : {T E : Type 0} → Option (List ℕ) → List ℕ → Result T E → Option (List ℕ) → Type 0
 WritesBytes old bytes (Ok u) new = Gained old new bytes
 WritesBytes old bytes (Err e) new = GainedPart old new bytes
-
--- the last output of a desk gained these bytes, and what is read stayed
-pub record LastGained (old new : Told) (bytes : List ℕ) : Type 0 where
-  pub kept : KeepsInput old new
-  pub begun : new.begun ≡ old.begun
-  pub outputs : GainsLast old.outputs new.outputs bytes
 
 -- all bytes were written to the last output, or a front of them
 abbrev pub WritesLast : {T E : Type 0} → Told → List ℕ → Result T E → Told → Type 0

@@ -8,7 +8,9 @@ use outside::Words;
 /// A translation: the names of its input and its output, where `-` is a standard stream.
 #[derive(Clone, Copy, Debug)]
 pub(crate) struct Command<'a> {
+    /// The name of the input.
     pub input: &'a str,
+    /// The name of the output.
     pub output: &'a str,
 }
 

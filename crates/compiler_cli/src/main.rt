@@ -7,6 +7,7 @@
 
 mod command;
 mod failure;
+mod laws;
 mod printed;
 mod report;
 mod run;
@@ -15,6 +16,7 @@ mod streams;
 use crate::failure::Failure;
 use crate::report::{report, report_usage};
 pub use failure::Status;
+pub use laws::run_laws;
 use outside::{FileDesk, StdSink, Words};
 pub use run::run;
 use std::alloc::AllocError;

@@ -6,7 +6,7 @@ ghost use Rattle.compiler_cli.specs.Texts.{joined, refusal_line, usage_line};
 
 use crate::failure::{Failure, Status};
 use crate::printed::{name, text};
-use crate::streams::write_bytes;
+use crate::streams::write_piece;
 use itoa::Buffer;
 use outside::{Failed, Sink};
 use word_base::Refusal;
@@ -17,7 +17,7 @@ fn write_parts<K: Sink>(sink: &mut K, parts: &[&str]) -> Result<(), Failed>
     ensures cause { HasCause (K.faults sink.old) (K.faults sink.new) result }
 {
     for part in parts {
-        write_bytes(sink, part.as_bytes())?;
+        write_piece(sink, part.as_bytes())?;
     }
     Ok(())
 }
@@ -27,7 +27,7 @@ pub(crate) fn report_usage<K: Sink>(sink: &mut K) -> Status
     ensures status { result ≡ Status.Usage }
     ensures line { Reports (stream (K.written sink.old) (K.faults sink.old)) (stream (K.written sink.new) (K.faults sink.new)) usage_line }
 {
-    let _ = write_bytes(sink, b"vkd3d-compiler: wrong words\n");
+    let _ = write_piece(sink, b"vkd3d-compiler: wrong words\n");
     Status::Usage
 }
 
@@ -42,11 +42,11 @@ pub(crate) fn report<K: Sink>(sink: &mut K, failure: Failure) -> Status
             Status::Refused
         }
         Failure::Fault => {
-            let _ = write_bytes(sink, b"vkd3d-compiler: outside fault\n");
+            let _ = write_piece(sink, b"vkd3d-compiler: outside fault\n");
             Status::Fault
         }
         Failure::NoMemory => {
-            let _ = write_bytes(sink, b"vkd3d-compiler: no memory\n");
+            let _ = write_piece(sink, b"vkd3d-compiler: no memory\n");
             Status::NoMemory
         }
     }

@@ -59,10 +59,7 @@ fn perform<D: Desk, O: Sink>(
         (seen (D.told desk.old) (O.written out.old) (O.faults out.old)) (seen (D.told desk.new) (O.written out.new) (O.faults out.new)) result }
     ensures missing { IsMissing (D.told desk.old).files command.entry.input.now → result ≡ Err Failure.Fault }
 {
-    let words = match make(alloc, desk, command.input) {
-        Ok(words) => words,
-        Err(failure) => return Err(failure),
-    };
+    let words = make(alloc, desk, command.input)?;
     match deliver(desk, out, command.output, &words) {
         Ok(()) => Ok(()),
         Err(_) => Err(Failure::Fault),
@@ -110,8 +107,5 @@ fn deliver<D: Desk, O: Sink>(
     }
     outside_laws();
     desk.begin_write(name)?;
-    match write_words_to_desk(desk, words) {
-        Ok(()) => Ok(()),
-        Err(failed) => Err(failed),
-    }
+    write_words_to_desk(desk, words)
 }

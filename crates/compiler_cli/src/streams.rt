@@ -1,11 +1,11 @@
-ghost use Rattle.std.specs.Prelude.{◌≡◌, ℕ, ◌≤◌, ◌<◌, ◌^◌, ◌⊎◌, List, [], Err, ◌*◌, IsTrue, IfOk, IfErr, length, take};
+ghost use Rattle.std.specs.Prelude.{◌≡◌, ℕ, ◌≤◌, ◌<◌, ◌^◌, ◌⊎◌, List, [], Err, ◌*◌, IsTrue, IfOk, IfErr, OnOk, length, take};
 ghost use Rattle.outside.specs.Causes.{HasCause, Rose};
 ghost use Rattle.outside.specs.Told.{KeepsOutputs, IsMissing};
 ghost use Rattle.word_base.specs.Words.{bytes_of};
 ghost use Rattle.compiler_cli.specs.Streams.{WritesBytes, WritesLast, CameWhole, FileCame, NothingLeft, StoppedBy, most_read};
 
 use byteorder::{ByteOrder, LittleEndian};
-use outside::{Desk, Failed, Sink, outside_laws};
+use outside::{Desk, Failed, LastOutput, Sink, outside_laws};
 use std::alloc::Global;
 
 /// The size in bytes of the pieces that are read and offered to an output.
@@ -30,6 +30,7 @@ pub(crate) enum Stop {
 fn read_left<D: Desk>(alloc: Global, desk: &mut D) -> Result<Vec<u8>, Stop>
     ensures whole { IfOk result (λ b. CameWhole (D.told desk.old).left b.items (D.told desk.new).left) }
     ensures limit { IfOk result (λ b. length b.items ≤ most_read) }
+    ensures quiet { OnOk result ((D.told desk.new).faults ≡ (D.told desk.old).faults) }
     ensures failed { IfErr result (λ e. StoppedBy e (Rose (D.told desk.old).faults (D.told desk.new).faults)) }
     ensures kept { KeepsOutputs (D.told desk.old) (D.told desk.new) }
     ensures later { (D.told desk.old).faults ≤ (D.told desk.new).faults }
@@ -59,6 +60,7 @@ pub(crate) fn read_file<D: Desk>(alloc: Global, desk: &mut D, name: &str) -> Res
     ensures limit { IfOk result (λ b. length b.items ≤ most_read) }
     ensures ended { IfOk result (λ b. length b.items < most_read → NothingLeft (D.told desk.new).left) }
     ensures missing { IsMissing (D.told desk.old).files name.now → result ≡ Err Stop.Fault }
+    ensures quiet { OnOk result ((D.told desk.new).faults ≡ (D.told desk.old).faults) }
     ensures failed { IfErr result (λ e. StoppedBy e (Rose (D.told desk.old).faults (D.told desk.new).faults ⊎ IsMissing (D.told desk.old).files name.now)) }
     ensures kept { KeepsOutputs (D.told desk.old) (D.told desk.new) }
     ensures later { (D.told desk.old).faults ≤ (D.told desk.new).faults }
@@ -67,38 +69,20 @@ pub(crate) fn read_file<D: Desk>(alloc: Global, desk: &mut D, name: &str) -> Res
     let Ok(()) = desk.begin_read(name) else {
         return Err(Stop::Fault);
     };
-    match read_left(alloc, desk) {
-        Ok(bytes) => Ok(bytes),
-        Err(stop) => Err(stop),
-    }
+    read_left(alloc, desk)
 }
 
-/// Writes a piece, and its rest where it is taken in part.
-fn write_piece<K: Sink>(sink: &mut K, piece: &[u8]) -> Result<(), Failed>
+/// Writes a piece, and its rest where it is taken in part. No bytes make no call.
+pub(crate) fn write_piece<K: Sink>(sink: &mut K, piece: &[u8]) -> Result<(), Failed>
     ensures bytes { WritesBytes (K.written sink.old) piece.now result (K.written sink.new) }
     ensures cause { HasCause (K.faults sink.old) (K.faults sink.new) result }
+    ensures kept { K.kept sink.new ≡ K.kept sink.old }
     ensures nothing { piece.now ≡ [] → sink.new ≡ sink.old }
 {
     outside_laws();
     let mut done = 0;
     while done < piece.len() {
         done += sink.write(&piece[done..])?;
-    }
-    Ok(())
-}
-
-/// Writes bytes in pieces, of which only the last may be shorter. No bytes make no call.
-pub(crate) fn write_bytes<K: Sink>(sink: &mut K, bytes: &[u8]) -> Result<(), Failed>
-    ensures bytes { WritesBytes (K.written sink.old) bytes.now result (K.written sink.new) }
-    ensures cause { HasCause (K.faults sink.old) (K.faults sink.new) result }
-    ensures nothing { bytes.now ≡ [] → sink.new ≡ sink.old }
-{
-    outside_laws();
-    let mut done = 0;
-    while done < bytes.len() {
-        let end = (done + PIECE).min(bytes.len());
-        write_piece(sink, &bytes[done..end])?;
-        done = end;
     }
     Ok(())
 }
@@ -116,6 +100,7 @@ fn fill(words: &[u32], buffer: &mut [u8; PIECE])
 pub(crate) fn write_words<K: Sink>(sink: &mut K, words: &[u32]) -> Result<(), Failed>
     ensures bytes { WritesBytes (K.written sink.old) (bytes_of words.now) result (K.written sink.new) }
     ensures cause { HasCause (K.faults sink.old) (K.faults sink.new) result }
+    ensures kept { K.kept sink.new ≡ K.kept sink.old }
     ensures nothing { words.now ≡ [] → sink.new ≡ sink.old }
 {
     outside_laws();
@@ -130,41 +115,7 @@ pub(crate) fn write_words<K: Sink>(sink: &mut K, words: &[u32]) -> Result<(), Fa
     Ok(())
 }
 
-/// Writes a piece to the last output, and its rest where it is taken in part.
-fn write_piece_to_desk<D: Desk>(desk: &mut D, piece: &[u8]) -> Result<(), Failed>
-    requires begun { IsTrue (D.told desk.old).begun }
-    ensures bytes { WritesLast (D.told desk.old) piece.now result (D.told desk.new) }
-    ensures cause { HasCause (D.told desk.old).faults (D.told desk.new).faults result }
-    ensures nothing { piece.now ≡ [] → desk.new ≡ desk.old }
-{
-    outside_laws();
-    let mut done = 0;
-    while done < piece.len() {
-        done += desk.write(&piece[done..])?;
-    }
-    Ok(())
-}
-
-/// Writes bytes to the last output of a desk in pieces, of which only the last may be shorter. No
-/// bytes make no call.
-pub(crate) fn write_bytes_to_desk<D: Desk>(desk: &mut D, bytes: &[u8]) -> Result<(), Failed>
-    requires begun { IsTrue (D.told desk.old).begun }
-    ensures bytes { WritesLast (D.told desk.old) bytes.now result (D.told desk.new) }
-    ensures cause { HasCause (D.told desk.old).faults (D.told desk.new).faults result }
-    ensures nothing { bytes.now ≡ [] → desk.new ≡ desk.old }
-{
-    outside_laws();
-    let mut done = 0;
-    while done < bytes.len() {
-        let end = (done + PIECE).min(bytes.len());
-        write_piece_to_desk(desk, &bytes[done..end])?;
-        done = end;
-    }
-    Ok(())
-}
-
-/// Writes the bytes of words to the last output of a desk, the lowest byte of each first, in pieces of
-/// which only the last may be shorter. No words make no call.
+/// Writes the bytes of words to the last output of a desk, as `write_words` does.
 pub(crate) fn write_words_to_desk<D: Desk>(desk: &mut D, words: &[u32]) -> Result<(), Failed>
     requires begun { IsTrue (D.told desk.old).begun }
     ensures bytes { WritesLast (D.told desk.old) (bytes_of words.now) result (D.told desk.new) }
@@ -172,13 +123,5 @@ pub(crate) fn write_words_to_desk<D: Desk>(desk: &mut D, words: &[u32]) -> Resul
     ensures nothing { words.now ≡ [] → desk.new ≡ desk.old }
 {
     outside_laws();
-    let mut buffer = [0; PIECE];
-    let mut done = 0;
-    while done < words.len() {
-        let end = (done + PIECE_WORDS).min(words.len());
-        fill(&words[done..end], &mut buffer);
-        write_piece_to_desk(desk, &buffer[..4 * (end - done)])?;
-        done = end;
-    }
-    Ok(())
+    write_words(&mut LastOutput { desk }, words)
 }

@@ -8,6 +8,7 @@ use Rattle.compiler_cli.proofs.run.make.Goals as goal
 pub returns-then-len-gt-MOST_BYTES-clause-failed : goal.returns-then-len-gt-MOST_BYTES-clause-failed
 returns-then-len-gt-MOST_BYTES-clause-failed g c = record {
   there = λ m. let k = c.read_file.ensures.missing m in let i = c.in-Ok.is in cc;
+  quiet = c.in-Ok.ensures.quiet;
   first = too_large _ _ c.in-Ok.bytes.items _ c.in-Ok.ensures.whole (omega arith);
 }
 
@@ -24,6 +25,7 @@ returns-in-Ok-translate-clause-made g c = record {
 pub returns-in-Err-Refused-clause-failed : goal.returns-in-Err-Refused-clause-failed
 returns-in-Err-Refused-clause-failed g c = record {
   there = λ m. let k = c.read_file.ensures.missing m in let i = c.in-Ok.is in cc;
+  quiet = c.in-Ok.ensures.quiet;
   first =
       refused _ _ c.in-Ok.bytes.items _ c.in-Err-Refused.refusal c.in-Ok.ensures.whole (omega arith)
       (subst (λ (x : List ℕ). IsFirst (IsBroken x) c.in-Err-Refused.refusal) c.deref.ensures.value (rw c.in-Err-Refused.field-0-is at c.in-Err-Refused.ensures.halted));

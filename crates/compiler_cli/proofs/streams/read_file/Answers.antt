@@ -1,5 +1,5 @@
-use Rattle.compiler_cli.proofs.Arrived.{came_ended}
+use Rattle.compiler_cli.proofs.Arrived.{left_ended}
 use Rattle.compiler_cli.proofs.streams.read_file.Goals as goal
 
-pub returns-in-Ok-read_left-clause-ended : goal.returns-in-Ok-read_left-clause-ended
-returns-in-Ok-read_left-clause-ended g c = came_ended _ _ _ c.in-Ok-read_left.ensures.whole
+pub returns-clause-ended : goal.returns-clause-ended
+returns-clause-ended g c = left_ended (λ b. b.items) _ _ c.read_left.result c.read_left.ensures.whole

@@ -1,4 +1,4 @@
-use Rattle.std.proofs.Common.{◌-◌, ◌^◌, ◌<◌, ◌≤◌}
+use Rattle.std.proofs.Common.{◌≡◌, ◌-◌, ◌≤◌}
 use Rattle.std.specs.Prelude.{vec_len}
 use Rattle.outside.specs.Told.{KeepsOutputs}
 use Rattle.compiler_cli.specs.Streams.{most_read}
@@ -10,8 +10,7 @@ invariant-loop-piece g l = record {
   within : vec_len l.bytes ≤ most_read;
   came : Came (g.D.Desk.told l.fn.desk).left l.bytes.items (g.D.Desk.told l.desk).left;
   kept : KeepsOutputs (g.D.Desk.told l.fn.desk) (g.D.Desk.told l.desk);
-  later : (g.D.Desk.told l.fn.desk).faults ≤ (g.D.Desk.told l.desk).faults;
-  small : (g.D.Desk.told l.fn.desk).faults < 2 ^ 64 → (g.D.Desk.told l.desk).faults < 2 ^ 64;
+  same : (g.D.Desk.told l.desk).faults ≡ (g.D.Desk.told l.fn.desk).faults;
 }
 
 abbrev pub decreases-loop-piece : goal.decreases-loop-piece

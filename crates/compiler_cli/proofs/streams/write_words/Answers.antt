@@ -1,4 +1,4 @@
-use Rattle.std.proofs.Common.{◌≡◌, ◌+◌, ◌-◌, ◌*◌, ◌≤◌, ℕ, List, length, take, drop, arith, subst}
+use Rattle.std.proofs.Common.{◌≡◌, ◌+◌, ◌-◌, ◌*◌, ◌≤◌, ℕ, List, length, take, drop, arith, subst, ◌∙◌}
 use Rattle.std.proofs.lemmas.Result.{err_from_is_err_and}
 use Rattle.outside.specs.Causes.{Gained}
 use Rattle.word_base.specs.Words.{bytes_of}
@@ -17,8 +17,8 @@ loop-done-preserved g c =
     record {
       within = fits;
       gained = subst (Gained (g.K.Sink.written c.args.sink.now) (g.K.Sink.written c.write_piece.new.sink)) (words_range words n end le) (c.outside_laws.ensures.gained_twice _ _ _ _ _ c.loop-done.invariant.gained piece);
-      later = omega (arith, c.write_piece.ensures.cause.later, c.loop-done.invariant.later);
-      small = λ h. c.write_piece.ensures.cause.within (c.loop-done.invariant.small h);
+      same = c.in_ok-write_piece.ensures.cause.kept ∙ c.loop-done.invariant.same;
+      kept = c.write_piece.ensures.kept ∙ c.loop-done.invariant.kept;
       nothing = λ e. absurd (omega (arith, e, c.min-end.ensures, c.loop-done-test.true));
     }
 

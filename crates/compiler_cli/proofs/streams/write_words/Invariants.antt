@@ -7,8 +7,8 @@ abbrev pub invariant-loop-done : goal.invariant-loop-done
 invariant-loop-done g l = record {
   within : l.done ≤ length l.words;
   gained : Gained (g.K.Sink.written l.fn.sink) (g.K.Sink.written l.sink) (bytes_of (take l.done l.words));
-  later : g.K.Sink.faults l.fn.sink ≤ g.K.Sink.faults l.sink;
-  small : g.K.Sink.faults l.fn.sink < 2 ^ 64 → g.K.Sink.faults l.sink < 2 ^ 64;
+  same : g.K.Sink.faults l.sink ≡ g.K.Sink.faults l.fn.sink;
+  kept : g.K.Sink.kept l.sink ≡ g.K.Sink.kept l.fn.sink;
   nothing : l.done ≡ 0 → l.sink ≡ l.fn.sink;
 }
 
