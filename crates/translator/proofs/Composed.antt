@@ -1,4 +1,5 @@
 -- The lane of a program and that of its module are the same.
+use Rattle.tpf_decode.specs.Profiles.{Base}
 use Rattle.std.proofs.Common.{◌≡◌, ℕ, ◌+◌, List, [], ◌++◌, length, Some, sym, ap, subst}
 use Rattle.word_base.specs.Lanes.{SameLanes}
 use Rattle.word_base.specs.Settings.{Setting}
@@ -27,9 +28,9 @@ after_body size names code x lines p l h =
     after_push size names code x lines p [] l (has_front code p (code_of lines) closing h) (subst (λ n. After size names code n []) e back.0)
 
 pub composed : (p : Shader) (setting : Setting) (m : Module) (places : Places) (names : List Found) (lines : List Line) (x : Statement)
-    → SameLanes (bytecode.step p setting) (step (size_of p) setting) bytecode.start (stand (push x []) no_words)
+    → SameLanes (bytecode.step Base p setting) (step (size_of p) setting) bytecode.start (stand (push x []) no_words)
     → IsWhole names (lane.machine m places setting) → Begins m places setting names lines → LoweredIn (size_of p) names x lines
-    → SameLanes (bytecode.step p setting) (lane.lane m places setting) bytecode.start (lane.start m places setting)
+    → SameLanes (bytecode.step Base p setting) (lane.lane m places setting) bytecode.start (lane.start m places setting)
 composed p setting m places names lines x first whole begins lowered =
     let k = lane.machine m places setting in
     let comes : Comes (size_of p) names k whole (stand (push x []) no_words) (Some begins.from) = record {
@@ -43,6 +44,6 @@ composed p setting m places names lines x first whole begins lowered =
         sound = first.never_wrong;
       };
     } in
-    subst (λ b. SameLanes (bytecode.step p setting) (lane.lane m places setting) bytecode.start b) (sym begins.first)
-    (same_on (bytecode.step p setting) (step (size_of p) setting) (lane.lane m places setting) bytecode.start (stand (push x []) no_words) (Some begins.from)
+    subst (λ b. SameLanes (bytecode.step Base p setting) (lane.lane m places setting) bytecode.start b) (sym begins.first)
+    (same_on (bytecode.step Base p setting) (step (size_of p) setting) (lane.lane m places setting) bytecode.start (stand (push x []) no_words) (Some begins.from)
     first (same (size_of p) names k whole (stand (push x []) no_words) (Some begins.from) comes))

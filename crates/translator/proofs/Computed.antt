@@ -1,20 +1,20 @@
 -- A run that is found by computation has its value.
+use Rattle.tpf_decode.specs.Profiles.{Base}
 use Rattle.std.proofs.Common.{◌≡◌, ℕ, zero, suc, Bool, true, false, List, [], ◌∷◌, Option, Some, None, inl, inr, refl, sym, ap}
 use Rattle.word_base.specs.Lanes.{Turn, Silent, Asks, Ends, Wrong, Meets}
 use Rattle.word_base.specs.Lanes.{Standing}
-use Rattle.word_base.specs.Settings.{Setting}
+use Rattle.word_base.specs.Settings.{Setting, Axes}
 use Rattle.tpf_program.specs.Bytecode as bytecode
 use Rattle.tpf_program.specs.Declarations.{threads_in}
 use Rattle.tpf_program.specs.Program.{Shader}
 use Rattle.spirv_words.specs.Text.{Module}
 use Rattle.spirv_words.specs.Globals.{Places}
 use Rattle.spirv_words.specs.Lane as lane
-use Rattle.translator.specs.Bindings.{Binding, places_of}
-use Rattle.translator.specs.Dispatch.{Dispatch, Shares, setting_of, at_start, shared_machine}
+use Rattle.translator.specs.Dispatch.{Dispatch, Shares}
 use Rattle.translator.specs.SameRuns.{ProgramRuns, ModuleRuns}
 use Rattle.translator.specs.WrongExamples.{loud_or, loud_in}
 use Rattle.translator.specs.Runs.{Machine, Picked, HasValue, moved}
-use Rattle.translator.specs.RunExamples.{stop_of, next_in, Stand, stand, taken, picked, run_on, run_in}
+use Rattle.translator.specs.RunExamples.{stop_of, next_in, Stand, stand, taken, picked, run_on, run_in, run_by}
 
 -- one silent step more
 further : {S : Type 0} (step : S → Turn S) (s to : S) (turn : Turn S) → step s ≡ Silent to → Meets step to turn → Meets step s turn
@@ -82,13 +82,10 @@ pub loud_module : (m : Module) (places : Places) (setting : Setting) (n : ℕ) (
     → loud_in n (lane.lane m places setting) (lane.start m places setting) ≡ Some turn → Meets (lane.lane m places setting) (lane.start m places setting) turn
 loud_module m places setting n turn h = loud (lane.lane m places setting) n (lane.start m places setting) turn h
 
-pub run_of_module : (p : Shader) (bindings : List Binding) (m : Module) (d : Dispatch) (n : ℕ) (picks : List ℕ) (value : Shares)
-    → run_in (shared_machine (threads_in p.declarations)) n (λ l. lane.lane m (places_of p bindings) (setting_of p d l)) picks
-    (stand (λ l. lane.start m (places_of p bindings) (setting_of p d l)) (at_start d)) ≡ Some value
-    → ModuleRuns p bindings m d picks value
-run_of_module p bindings m d n picks value h = has_value _ n _ picks _ value h
+pub run_of_module : (threads : Axes) (places : Places) (m : Module) (d : Dispatch) (n : ℕ) (picks : List ℕ) (value : Shares)
+    → run_by threads (lane.lane m places) (lane.start m places) d n picks ≡ Some value → ModuleRuns threads places m d picks value
+run_of_module threads places m d n picks value h = has_value _ n _ picks _ value h
 
 pub run_of_program : (p : Shader) (d : Dispatch) (n : ℕ) (picks : List ℕ) (value : Shares)
-    → run_in (shared_machine (threads_in p.declarations)) n (λ l. bytecode.step p (setting_of p d l)) picks (stand (λ l. bytecode.start) (at_start d)) ≡ Some value
-    → ProgramRuns p d picks value
+    → run_by (threads_in p.declarations) (bytecode.step Base p) (λ setting. bytecode.start) d n picks ≡ Some value → ProgramRuns Base p d picks value
 run_of_program p d n picks value h = has_value _ n _ picks _ value h

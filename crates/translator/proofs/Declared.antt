@@ -8,7 +8,7 @@ use Rattle.translator.specs.declared.emission.Emitter.{Emitter}
 use Rattle.translator.specs.declared.names.Name.{Name}
 use Rattle.translator.specs.declared.names.Name.TheVariants.{Constant, Scratch, Registers, Shared}
 use Rattle.translator.specs.declared.names.Found.{Found}
-use Rattle.translator.specs.Bindings.{numbers_from}
+use Rattle.std.specs.List.{range_with_len}
 use Rattle.translator.specs.Emission.{Among, Declares}
 use Rattle.translator.specs.Finished.{shared_slots, shared_words}
 use Rattle.translator.specs.Found.{Has, shared_in}
@@ -62,10 +62,10 @@ words_join [] gs = refl
 words_join (f ∷ fs) gs = words_last_by f.name f.id fs gs (words_join fs gs)
 
 -- NUMBERS from one on, and those of them that meet a test
-numbers_more : (n k : ℕ) → numbers_from n (suc k) ≡ numbers_from n k ++ (n + k) ∷ []
+numbers_more : (n k : ℕ) → range_with_len n (suc k) ≡ range_with_len n k ++ (n + k) ∷ []
 numbers_more n zero = ap (λ x. x ∷ []) (let e : n ≡ n + 0 = omega arith in e)
 numbers_more n (suc k) =
-    ap (λ l. n ∷ l) (numbers_more (n + 1) k ∙ ap (λ x. numbers_from (n + 1) k ++ x ∷ []) (let e : n + 1 + k ≡ n + suc k = omega arith in e))
+    ap (λ l. n ∷ l) (numbers_more (n + 1) k ∙ ap (λ x. range_with_len (n + 1) k ++ x ∷ []) (let e : n + 1 + k ≡ n + suc k = omega arith in e))
 
 filter_by : (b : Bool) (x : ℕ) (xs ys zs : List ℕ) → xs ≡ ys ++ zs → cond b (x ∷ xs) xs ≡ cond b (x ∷ ys) ys ++ zs
 filter_by true x xs ys zs h = ap (λ l. x ∷ l) h
@@ -88,7 +88,7 @@ among_filter : (test : ℕ → Bool) (xs : List ℕ) (y : ℕ) → Among (filter
 among_filter test [] y h = h
 among_filter test (x ∷ xs) y h = among_by (test x) x y (filter test xs) xs (among_filter test xs y) h
 
-among_numbers : (n k y : ℕ) → Among (numbers_from n k) y → (n ≤ y) × (y < n + k)
+among_numbers : (n k y : ℕ) → Among (range_with_len n k) y → (n ≤ y) × (y < n + k)
 among_numbers n zero y h = absurd h
 among_numbers n (suc k) y (inl e) = (omega (arith, e), omega (arith, e))
 among_numbers n (suc k) y (inr h) = let r = among_numbers (n + 1) k y h in (omega (arith, r.0), omega (arith, r.1))
@@ -112,30 +112,30 @@ pub record Reaches (p : Shader) (i : ℕ) (e : Emitter) : Type 0 where
   pub lines : e.lines.items ≡ []
   pub registers : e.registers ≡ size_of p
   pub next : e.next ≤ 8 + 4 * i
-  pub slots : shared_slots e.names.items ≡ filter (has_words p) (numbers_from 0 i)
-  pub words : shared_words e.names.items ≡ map (λ slot. shared_extent slot p.declarations) (filter (has_words p) (numbers_from 0 i))
+  pub slots : shared_slots e.names.items ≡ filter (has_words p) (range_with_len 0 i)
+  pub words : shared_words e.names.items ≡ map (λ slot. shared_extent slot p.declarations) (filter (has_words p) (range_with_len 0 i))
 
 pub absent_slot : (p : Shader) (i words : ℕ) (e : Emitter) → Reaches p i e → (id : ℕ) → Has e.names.items (Shared i words) id → ⊥
 absent_slot p i words e r id h =
-    let a = among_filter (has_words p) (numbers_from 0 i) i (subst (λ l. Among l i) r.slots (slot_among e.names.items i words id h)) in
+    let a = among_filter (has_words p) (range_with_len 0 i) i (subst (λ l. Among l i) r.slots (slot_among e.names.items i words id h)) in
     omega (arith, (among_numbers 0 i i a).1)
 
-next_number : (i : ℕ) → numbers_from 0 (i + 1) ≡ numbers_from 0 i ++ i ∷ []
+next_number : (i : ℕ) → range_with_len 0 (i + 1) ≡ range_with_len 0 i ++ i ∷ []
 next_number i =
     let e : i + 1 ≡ suc i = omega arith in
     let f : 0 + i ≡ i = omega arith in
-    ap (numbers_from 0) e ∙ (numbers_more 0 i ∙ ap (λ x. numbers_from 0 i ++ x ∷ []) f)
+    ap (range_with_len 0) e ∙ (numbers_more 0 i ∙ ap (λ x. range_with_len 0 i ++ x ∷ []) f)
 
 with_one : (p : Shader) (i : ℕ) → (shared_extent i p.declarations ≡ 0 → ⊥)
-    → filter (has_words p) (numbers_from 0 (i + 1)) ≡ filter (has_words p) (numbers_from 0 i) ++ i ∷ []
+    → filter (has_words p) (range_with_len 0 (i + 1)) ≡ filter (has_words p) (range_with_len 0 i) ++ i ∷ []
 with_one p i h =
     let t : has_words p i ≡ true = grind (arith, nat_tests, h) in
-    ap (filter (has_words p)) (next_number i) ∙ (filter_join (has_words p) (numbers_from 0 i) (i ∷ []) ∙ ap (λ b. filter (has_words p) (numbers_from 0 i) ++ cond b (i ∷ []) []) t)
+    ap (filter (has_words p)) (next_number i) ∙ (filter_join (has_words p) (range_with_len 0 i) (i ∷ []) ∙ ap (λ b. filter (has_words p) (range_with_len 0 i) ++ cond b (i ∷ []) []) t)
 
-with_none : (p : Shader) (i : ℕ) → shared_extent i p.declarations ≡ 0 → filter (has_words p) (numbers_from 0 (i + 1)) ≡ filter (has_words p) (numbers_from 0 i) ++ []
+with_none : (p : Shader) (i : ℕ) → shared_extent i p.declarations ≡ 0 → filter (has_words p) (range_with_len 0 (i + 1)) ≡ filter (has_words p) (range_with_len 0 i) ++ []
 with_none p i h =
     let t : has_words p i ≡ false = rw h refl in
-    ap (filter (has_words p)) (next_number i) ∙ (filter_join (has_words p) (numbers_from 0 i) (i ∷ []) ∙ ap (λ b. filter (has_words p) (numbers_from 0 i) ++ cond b (i ∷ []) []) t)
+    ap (filter (has_words p)) (next_number i) ∙ (filter_join (has_words p) (range_with_len 0 i) (i ∷ []) ∙ ap (λ b. filter (has_words p) (range_with_len 0 i) ++ cond b (i ∷ []) []) t)
 
 no_more : (xs : List ℕ) → xs ++ [] ≡ xs
 no_more [] = refl
@@ -156,13 +156,13 @@ reaches_on p i words old new r e h d =
       words =
           words_of_shared new.names.items ∙ (ap shared_words d.shared ∙ (words_join (shared_in old.names.items) _
           ∙ (ap (λ l. l ++ words ∷ []) (sym (words_of_shared old.names.items) ∙ r.words)
-          ∙ (ap (λ w. map f (filter (has_words p) (numbers_from 0 i)) ++ w ∷ []) e
-          ∙ (sym (map_join f (filter (has_words p) (numbers_from 0 i)) (i ∷ [])) ∙ ap (map f) (sym more))))));
+          ∙ (ap (λ w. map f (filter (has_words p) (range_with_len 0 i)) ++ w ∷ []) e
+          ∙ (sym (map_join f (filter (has_words p) (range_with_len 0 i)) (i ∷ [])) ∙ ap (map f) (sym more))))));
     }
 
 pub reaches_past : (p : Shader) (i : ℕ) (e : Emitter) → Reaches p i e → shared_extent i p.declarations ≡ 0 → Reaches p (i + 1) e
 reaches_past p i e r h =
-    let same = with_none p i h ∙ no_more (filter (has_words p) (numbers_from 0 i)) in
+    let same = with_none p i h ∙ no_more (filter (has_words p) (range_with_len 0 i)) in
     record {
       lines = r.lines;
       registers = r.registers;

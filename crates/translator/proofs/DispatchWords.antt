@@ -6,7 +6,7 @@ use Rattle.word_base.specs.declared.event.Event.TheVariants.{Load, Store, Atomic
 use Rattle.word_base.specs.declared.event.Room.{Room}
 use Rattle.word_base.specs.declared.event.Room.TheVariants.{Resource, Uav, Counter, Shared}
 use Rattle.word_base.specs.Words.{AreWords}
-use Rattle.tpf_program.specs.Declarations.{Threads}
+use Rattle.word_base.specs.Settings.{Axes}
 use Rattle.tpf_program.specs.Holding.{IsEventOfWords}
 use Rattle.translator.specs.Dispatch.{Memory, room_words, answer_of, same_room, with_views, with_room, memory_after, group_of_lane, shared_machine}
 use Rattle.translator.proofs.RaiseLaws.{ActsOnWords}
@@ -59,7 +59,7 @@ answer_word m group (Atomic room word kind a b) h = room_holds m group room h wo
 answer_word m group (Fence scope classes) h = omega arith
 answer_word m group (Barrier scope classes) h = omega arith
 
-pub keeps_words : ActsOnWords → (t : Threads) → Keeps (shared_machine t) (λ c. HoldsWords c.memory) IsEventOfWords
+pub keeps_words : ActsOnWords → (t : Axes) → Keeps (shared_machine t) (λ c. HoldsWords c.memory) IsEventOfWords
 keeps_words acts t = record {
   answer = λ c lane e h. answer_word c.memory (group_of_lane t lane) e h;
   happens = λ c lane e h k. memory_holds acts c.memory (group_of_lane t lane) e h k;

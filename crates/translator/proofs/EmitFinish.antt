@@ -2,7 +2,7 @@
 use Rattle.std.proofs.Common.{◌≡◌, ℕ, zero, suc, ◌+◌, ◌≤◌, Bool, true, false, List, [], ◌∷◌, ◌++◌, length, Some, refl, sym, ap, ◌∙◌, subst, arith, append_assoc, append-nil}
 use Rattle.std.specs.Prelude.{slice_get, take, drop, flat_map, if◌then◌else◌}
 use Rattle.spirv_words.specs.Text.{Instr, words_of_instr, words_of_code, header_of}
-use Rattle.tpf_program.specs.Declarations.{Threads}
+use Rattle.word_base.specs.Settings.{Axes}
 use Rattle.translator.specs.declared.line.Line.{Line}
 use Rattle.translator.specs.declared.names.Name.{Name}
 use Rattle.translator.specs.declared.names.Found.{Found}
@@ -97,7 +97,7 @@ text_in_order f c a o l k z =
     ∙ ap (λ x. (words_of_code f ++ (words_of_code c ++ words_of_code a)) ++ x)
     (append o (l ++ (k ++ z)) ∙ ap (λ x. words_of_code o ++ x) (append l (k ++ z) ∙ ap (λ x. words_of_code l ++ x) (append k z))))
 
-pub finishes : (t : Threads) (names : List Found) (bound : ℕ) (lines : List Line) (w0 w1 w2 w3 w4 w5 w6 w7 : List ℕ) → w0 ≡ header_of (module_of t names bound lines)
+pub finishes : (t : Axes) (names : List Found) (bound : ℕ) (lines : List Line) (w0 w1 w2 w3 w4 w5 w6 w7 : List ℕ) → w0 ≡ header_of (module_of t names bound lines)
     → w1 ≡ w0 ++ words_of_code (front t) → w2 ≡ w1 ++ words_of_code (constants names) → w3 ≡ w2 ++ words_of_code (arrays names names)
     → w4 ≡ w3 ++ words_of_code opening → w5 ≡ w4 ++ words_of_code (locals names names) → w6 ≡ w5 ++ words_of_code (code_of lines) → w7 ≡ w6 ++ words_of_code closing
     → w7 ≡ header_of (module_of t names bound lines) ++ words_of_code (module_of t names bound lines).code
@@ -113,11 +113,11 @@ finishes t names bound lines w0 w1 w2 w3 w4 w5 w6 w7 h0 h1 h2 h3 h4 h5 h6 h7 =
     p7 ∙ (in_order (header_of (module_of t names bound lines)) (words_of_code (front t)) (words_of_code (constants names)) (words_of_code (arrays names names)) (words_of_code opening) (words_of_code (locals names names)) (words_of_code (code_of lines)) z
     ∙ ap (λ x. header_of (module_of t names bound lines) ++ x) (sym (text_in_order (front t) (constants names) (arrays names names) opening (locals names names) (code_of lines) closing)))
 
-pub front_parts : (t : Threads) (w0 w1 w2 : List ℕ) → w1 ≡ w0 ++ words_of_code (take 4 (front t)) → w2 ≡ w1 ++ words_of_code (drop 4 (front t)) → w2 ≡ w0 ++ words_of_code (front t)
+pub front_parts : (t : Axes) (w0 w1 w2 : List ℕ) → w1 ≡ w0 ++ words_of_code (take 4 (front t)) → w2 ≡ w1 ++ words_of_code (drop 4 (front t)) → w2 ≡ w0 ++ words_of_code (front t)
 front_parts t w0 w1 w2 h k = k ∙ (ap (λ l. l ++ words_of_code (drop 4 (front t))) h ∙ append_assoc w0 (words_of_code (take 4 (front t))) (words_of_code (drop 4 (front t))))
 
 -- the same, where parts were written from lists that are those of names and lines
-pub finishes_by : (t : Threads) (names : List Found) (bound : ℕ) (lines : List Line) (ns ms ks : List Found) (ls : List Line) (w0 w1 w2 w3 w4 w5 w6 w7 : List ℕ)
+pub finishes_by : (t : Axes) (names : List Found) (bound : ℕ) (lines : List Line) (ns ms ks : List Found) (ls : List Line) (w0 w1 w2 w3 w4 w5 w6 w7 : List ℕ)
     → ns ≡ names → ms ≡ names → ks ≡ names → ls ≡ lines → w0 ≡ header_of (module_of t names bound lines)
     → w1 ≡ w0 ++ words_of_code (front t) → w2 ≡ w1 ++ words_of_code (constants ns) → w3 ≡ w2 ++ words_of_code (arrays ms ms)
     → w4 ≡ w3 ++ words_of_code opening → w5 ≡ w4 ++ words_of_code (locals ks ks) → w6 ≡ w5 ++ words_of_code (code_of ls) → w7 ≡ w6 ++ words_of_code closing

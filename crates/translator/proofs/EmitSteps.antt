@@ -35,7 +35,7 @@ module _ (names : List Found) (m : Machine) (s : State) (whole : IsWhole names m
 
   pub load_step : (r p v w x : ℕ) → slice_get m.code s.place ≡ Some (instr 61 (5 ∷ r ∷ p ∷ [])) → s.values p ≡ Some (AtLocal v w) → s.memory v w ≡ Some x
       → step m s ≡ sets s r (Word x)
-  load_step r p v w x at hp hx = plain (instr 61 (5 ∷ r ∷ p ∷ [])) at ∙ rw (hp, hx) refl
+  load_step r p v w x at hp hx = plain (instr 61 (5 ∷ r ∷ p ∷ [])) at ∙ rw (hp, whole.words, hx) refl
 
   pub sum_step : (r a b x y : ℕ) → slice_get m.code s.place ≡ Some (instr 128 (5 ∷ r ∷ a ∷ b ∷ [])) → s.values a ≡ Some (Word x) → s.values b ≡ Some (Word y)
       → step m s ≡ sets s r (Word ((x + y) % 2 ^ 32))

@@ -2,6 +2,7 @@
 use Rattle.std.proofs.Common.{◌≡◌, ℕ, ◌<◌, ◌^◌, Bool, true, false, ◌&&◌, List, [], ◌∷◌, Option, Some, None, IsTrue, refl, sym, ◌∙◌, subst, arith}
 use Rattle.std.specs.Prelude.{slice_get, slice_index, nat_eq, if◌then◌else◌}
 use Rattle.std.specs.List.{list_all}
+use Rattle.word_base.specs.declared.event.Room.{Room}
 use Rattle.tpf_decode.specs.declared.argument.Kind.{Kind}
 use Rattle.tpf_decode.specs.declared.argument.Kind.TheVariants as kind
 use Rattle.tpf_decode.specs.declared.argument.Select.{Select}
@@ -14,11 +15,11 @@ use Rattle.tpf_program.specs.declared.instruction.Instruction.{Instruction}
 use Rattle.tpf_program.specs.Holding.{IsProgramOfWords, IsWellSpelled, SelectsInRange}
 use Rattle.tpf_program.specs.Program.{Shader}
 use Rattle.tpf_program.specs.Sizes.{Addressing, Bytes, Structures, addressing_of, addressing_declared, or_addressing}
-use Rattle.tpf_program.specs.Spelling.{Item, Declares, Does, Lists, Skips, declarations_in, constants_in}
+use Rattle.tpf_program.specs.Spelling.{Item, Declares, Types, Does, Lists, Skips, declarations_in, constants_in}
 use Rattle.tpf_program.specs.StraightLine.{is_built, IsStraightLine}
 use Rattle.translator.specs.Lowered.{IsLowerable}
 use Rattle.translator.specs.Raised.{At, AreAllOfWords, IsComponent, SelectComponents}
-use Rattle.translator.proofs.Limits.{few_registers, few_slots}
+use Rattle.translator.proofs.Limits.{few_registers, few_slots, few_words}
 use Rattle.translator.proofs.Wants.{is_plain}
 
 first_of : (a b : Bool) → IsTrue (a && b) → IsTrue a
@@ -33,6 +34,7 @@ rest_of false b h = absurd cc
 no_constants : (items : List Item) → IsTrue (list_all (λ d. is_built d.what) (declarations_in items)) → constants_in items ≡ []
 no_constants [] h = refl
 no_constants (Declares d ∷ xs) h = no_constants xs (rest_of (is_built d.what) (list_all (λ e. is_built e.what) (declarations_in xs)) h)
+no_constants (Types d view ∷ xs) h = no_constants xs (rest_of (is_built d.what) (list_all (λ e. is_built e.what) (declarations_in xs)) h)
 no_constants (Does i ∷ xs) h = no_constants xs h
 no_constants (Lists place values ∷ xs) h = absurd (cc)
 no_constants (Skips kind values ∷ xs) h = no_constants xs h
@@ -42,62 +44,62 @@ abbrev IsBytes : Option Addressing → Type 0
 IsBytes None = Unit {0}
 IsBytes (Some a) = a ≡ Bytes
 
-none_or : (k : Kind) (slot : ℕ) (what : Declaration) → IsTrue (is_built what) → IsBytes (addressing_declared k slot what)
-none_or kind.Temp slot what h = tt
-none_or kind.Indexable slot what h = tt
-none_or kind.Immediate slot what h = tt
-none_or kind.Resource slot (Flags f) h = tt
-none_or kind.Resource slot (Constants s n) h = absurd cc
-none_or kind.Resource slot (Resource s v) h = absurd cc
-none_or kind.Resource slot (Uav s v c o) h = absurd cc
-none_or kind.Resource slot (Shared s v) h = tt
-none_or kind.Resource slot (Input b s) h = absurd cc
-none_or kind.Resource slot (Temps n) h = tt
-none_or kind.Resource slot (Indexable s n c) h = absurd cc
-none_or kind.Resource slot (Group x y z) h = tt
-none_or kind.Resource slot (ImmediateConstants n) h = absurd cc
-none_or kind.Constant slot what h = tt
-none_or kind.ImmediateConstant slot what h = tt
-none_or kind.Null slot what h = tt
-none_or kind.Uav slot (Flags f) h = tt
-none_or kind.Uav slot (Constants s n) h = absurd cc
-none_or kind.Uav slot (Resource s v) h = absurd cc
-none_or kind.Uav slot (Uav s v c o) h = absurd cc
-none_or kind.Uav slot (Shared s v) h = tt
-none_or kind.Uav slot (Input b s) h = absurd cc
-none_or kind.Uav slot (Temps n) h = tt
-none_or kind.Uav slot (Indexable s n c) h = absurd cc
-none_or kind.Uav slot (Group x y z) h = tt
-none_or kind.Uav slot (ImmediateConstants n) h = absurd cc
-none_or kind.Shared slot (Flags f) h = tt
-none_or kind.Shared slot (Constants s n) h = absurd cc
-none_or kind.Shared slot (Resource s v) h = absurd cc
-none_or kind.Shared slot (Uav s v c o) h = absurd cc
-none_or kind.Shared slot (Shared s (Raw bytes)) h = by_test (nat_eq s slot) where
+none_or : (typed : List Room) (k : Kind) (slot : ℕ) (what : Declaration) → IsTrue (is_built what) → IsBytes (addressing_declared typed k slot what)
+none_or typed kind.Temp slot what h = tt
+none_or typed kind.Indexable slot what h = tt
+none_or typed kind.Immediate slot what h = tt
+none_or typed kind.Resource slot (Flags f) h = tt
+none_or typed kind.Resource slot (Constants s n) h = absurd cc
+none_or typed kind.Resource slot (Resource s v) h = absurd cc
+none_or typed kind.Resource slot (Uav s v c o) h = absurd cc
+none_or typed kind.Resource slot (Shared s v) h = tt
+none_or typed kind.Resource slot (Input b s) h = absurd cc
+none_or typed kind.Resource slot (Temps n) h = tt
+none_or typed kind.Resource slot (Indexable s n c) h = absurd cc
+none_or typed kind.Resource slot (Group x y z) h = tt
+none_or typed kind.Resource slot (ImmediateConstants n) h = absurd cc
+none_or typed kind.Constant slot what h = tt
+none_or typed kind.ImmediateConstant slot what h = tt
+none_or typed kind.Null slot what h = tt
+none_or typed kind.Uav slot (Flags f) h = tt
+none_or typed kind.Uav slot (Constants s n) h = absurd cc
+none_or typed kind.Uav slot (Resource s v) h = absurd cc
+none_or typed kind.Uav slot (Uav s v c o) h = absurd cc
+none_or typed kind.Uav slot (Shared s v) h = tt
+none_or typed kind.Uav slot (Input b s) h = absurd cc
+none_or typed kind.Uav slot (Temps n) h = tt
+none_or typed kind.Uav slot (Indexable s n c) h = absurd cc
+none_or typed kind.Uav slot (Group x y z) h = tt
+none_or typed kind.Uav slot (ImmediateConstants n) h = absurd cc
+none_or typed kind.Shared slot (Flags f) h = tt
+none_or typed kind.Shared slot (Constants s n) h = absurd cc
+none_or typed kind.Shared slot (Resource s v) h = absurd cc
+none_or typed kind.Shared slot (Uav s v c o) h = absurd cc
+none_or typed kind.Shared slot (Shared s (Raw bytes)) h = by_test (nat_eq s slot) where
   by_test : (b : Bool) → IsBytes (if b then Some Bytes else None)
   by_test true = refl
   by_test false = tt
-none_or kind.Shared slot (Shared s (Structured stride count)) h = absurd cc
-none_or kind.Shared slot (Input b s) h = absurd cc
-none_or kind.Shared slot (Temps n) h = tt
-none_or kind.Shared slot (Indexable s n c) h = absurd cc
-none_or kind.Shared slot (Group x y z) h = tt
-none_or kind.Shared slot (ImmediateConstants n) h = absurd cc
-none_or kind.ThreadId slot what h = tt
-none_or kind.GroupId slot what h = tt
-none_or kind.IdInGroup slot what h = tt
-none_or kind.FlatId slot what h = tt
+none_or typed kind.Shared slot (Shared s (Structured stride count)) h = absurd cc
+none_or typed kind.Shared slot (Input b s) h = absurd cc
+none_or typed kind.Shared slot (Temps n) h = tt
+none_or typed kind.Shared slot (Indexable s n c) h = absurd cc
+none_or typed kind.Shared slot (Group x y z) h = tt
+none_or typed kind.Shared slot (ImmediateConstants n) h = absurd cc
+none_or typed kind.ThreadId slot what h = tt
+none_or typed kind.GroupId slot what h = tt
+none_or typed kind.IdInGroup slot what h = tt
+none_or typed kind.FlatId slot what h = tt
 
 or_bytes : (o : Option Addressing) (a : Addressing) → IsBytes o → a ≡ Bytes → or_addressing o a ≡ Bytes
 or_bytes None a h e = e
 or_bytes (Some b) a h e = h
 
-by_bytes : (k : Kind) (slot : ℕ) (ds : List Declared) → IsTrue (list_all (λ d. is_built d.what) ds) → addressing_of k slot ds ≡ Bytes
-by_bytes k slot [] h = refl
-by_bytes k slot (d ∷ ds) h =
+by_bytes : (typed : List Room) (k : Kind) (slot : ℕ) (ds : List Declared) → IsTrue (list_all (λ d. is_built d.what) ds) → addressing_of typed k slot ds ≡ Bytes
+by_bytes typed k slot [] h = refl
+by_bytes typed k slot (d ∷ ds) h =
     let test = λ (e : Declared). is_built e.what in
-    or_bytes (addressing_declared k slot d.what) (addressing_of k slot ds) (none_or k slot d.what (first_of (is_built d.what) (list_all test ds) h))
-    (by_bytes k slot ds (rest_of (is_built d.what) (list_all test ds) h))
+    or_bytes (addressing_declared typed k slot d.what) (addressing_of typed k slot ds) (none_or typed k slot d.what (first_of (is_built d.what) (list_all test ds) h))
+    (by_bytes typed k slot ds (rest_of (is_built d.what) (list_all test ds) h))
 
 bytes_are_none : (a : Addressing) (stride : ℕ) → a ≡ Bytes → a ≡ Structures stride → ⊥
 bytes_are_none a stride h k = cc (h, k)
@@ -107,7 +109,7 @@ of_words tokens p line = record {
   constants = λ k.
       let none = line.spelled.constants ∙ no_constants line.spelled.items (subst (λ ds. IsTrue (list_all (λ d. is_built d.what) ds)) line.spelled.declarations line.declarations) in
       subst (λ ws. slice_index ws k < 2 ^ 32) (sym none) (omega arith);
-  strides = λ k slot stride h. absurd (bytes_are_none _ stride (by_bytes k slot p.declarations line.declarations) h);
+  strides = λ k slot stride h. absurd (bytes_are_none _ stride (by_bytes p.typed k slot p.declarations line.declarations) h);
 }
 
 -- ITS INSTRUCTIONS, in range
@@ -139,6 +141,7 @@ lowerable tokens p line h = record {
   declarations = line.declarations;
   temps = few_registers p line.sound;
   slots = few_slots p line.sound;
+  words = few_words p line.sound;
   instructions = line.instructions;
   end = line.end;
   components = components p h;

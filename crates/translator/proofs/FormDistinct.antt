@@ -1,7 +1,7 @@
 -- Each id of the module is defined once, and the instruction that defines it is found by it.
 use Rattle.std.proofs.Common.{◌≡◌, ℕ, ◌+◌, ◌<◌, ◌≤◌, inl, inr, List, [], ◌∷◌, ◌++◌, true, sym, subst, arith, Some}
 use Rattle.std.specs.Prelude.{slice_get}
-use Rattle.tpf_program.specs.Declarations.{Threads}
+use Rattle.word_base.specs.Settings.{Axes}
 use Rattle.spirv_words.specs.Text.{Instr}
 use Rattle.spirv_words.specs.Ids.{ids_of, contains, definition}
 use Rattle.spirv_words.specs.Definitions.{results, are_distinct}
@@ -15,7 +15,7 @@ use Rattle.translator.proofs.FormCounts.{Member, member_at, count, times, times-
 use Rattle.translator.proofs.FormIds.{Once, Owns, names_once, ascend_once, times_lines}
 
 -- the ids of the module's own
-fixed_once : (t : Threads) (x : ℕ) → Once (times x (front t) + times x opening) ((1 ≤ x) × (x < 8))
+fixed_once : (t : Axes) (x : ℕ) → Once (times x (front t) + times x opening) ((1 ≤ x) × (x < 8))
 fixed_once t x = same (ascend_once 1 (1 ∷ 2 ∷ 3 ∷ 4 ∷ 5 ∷ 6 ∷ 7 ∷ []) 8 x ascending) where
   ascending : Ascend 1 (1 ∷ 2 ∷ 3 ∷ 4 ∷ 5 ∷ 6 ∷ 7 ∷ []) 8
   ascending = (omega arith, (omega arith, (omega arith, (omega arith, (omega arith, (omega arith, (omega arith, omega arith)))))))
@@ -25,7 +25,7 @@ fixed_once t x = same (ascend_once 1 (1 ∷ 2 ∷ 3 ∷ 4 ∷ 5 ∷ 6 ∷ 7 ∷ 
   same (inr p) = inr (omega (arith, p.0), (p.1.0, p.1.1))
 
 -- the parts of the code, by how often an id is in them
-parts : (t : Threads) (names : List Found) (bound : ℕ) (lines : List Line) (x : ℕ)
+parts : (t : Axes) (names : List Found) (bound : ℕ) (lines : List Line) (x : ℕ)
     → times x (module_of t names bound lines).code
     ≡ (times x (front t) + times x opening) + ((times x (constants names) + (times x (arrays names names) + times x (locals names names))) + times x (code_of lines))
 parts t names bound lines x =
@@ -38,7 +38,7 @@ parts t names bound lines x =
     omega (arith, a, b, c, d, e, f)
 
 -- an id is defined once at most, and then it is below the bound
-pub few : (t : Threads) (names : List Found) (bound : ℕ) (lines : List Line) → IsComplete names bound lines → (x : ℕ)
+pub few : (t : Axes) (names : List Found) (bound : ℕ) (lines : List Line) → IsComplete names bound lines → (x : ℕ)
     → Once (times x (module_of t names bound lines).code) ((0 < x) × (x < bound))
 few t names bound lines h x =
     joined _ _ _ _ (parts t names bound lines x) h.rising.0 (fixed_once t x) (names_once names names 8 bound x h.rising)
@@ -58,34 +58,34 @@ at_most : (c : ℕ) (P : Type 0) → Once c P → c ≤ 1
 at_most c P (inl e) = omega (arith, e)
 at_most c P (inr p) = omega (arith, p.0)
 
-pub few_times : (t : Threads) (names : List Found) (bound : ℕ) (lines : List Line) → IsComplete names bound lines → (x : ℕ)
+pub few_times : (t : Axes) (names : List Found) (bound : ℕ) (lines : List Line) → IsComplete names bound lines → (x : ℕ)
     → times x (module_of t names bound lines).code ≤ 1
 few_times t names bound lines h x = at_most _ _ (few t names bound lines h x)
 
-pub distinct : (t : Threads) (names : List Found) (bound : ℕ) (lines : List Line) → IsComplete names bound lines
+pub distinct : (t : Axes) (names : List Found) (bound : ℕ) (lines : List Line) → IsComplete names bound lines
     → are_distinct (results (module_of t names bound lines).code) ≡ true
 distinct t names bound lines h =
     let code = (module_of t names bound lines).code in
     few_distinct (results code) (λ x. subst (λ n. n ≤ 1) (sym (count_results x code)) (few_times t names bound lines h x))
 
 -- the instruction that defines an id
-pub definition_member : (t : Threads) (names : List Found) (bound : ℕ) (lines : List Line) → IsComplete names bound lines
+pub definition_member : (t : Axes) (names : List Found) (bound : ℕ) (lines : List Line) → IsComplete names bound lines
     → (i : Instr) (x : ℕ) → Member (module_of t names bound lines).code i → contains (ids_of i).results x ≡ true
     → definition (module_of t names bound lines).code x ≡ Some i
 definition_member t names bound lines h i x m c = definition_of x (module_of t names bound lines).code i (few_times t names bound lines h x) m c
 
-pub definition_at : (t : Threads) (names : List Found) (bound : ℕ) (lines : List Line) → IsComplete names bound lines
+pub definition_at : (t : Axes) (names : List Found) (bound : ℕ) (lines : List Line) → IsComplete names bound lines
     → (k : ℕ) (i : Instr) (x : ℕ) → slice_get (module_of t names bound lines).code k ≡ Some i → contains (ids_of i).results x ≡ true
     → definition (module_of t names bound lines).code x ≡ Some i
 definition_at t names bound lines h k i x e c = definition_member t names bound lines h i x (member_at (module_of t names bound lines).code k i e) c
 
 -- in front of the function
-global_times : (t : Threads) (names : List Found) (bound : ℕ) (lines : List Line) → IsComplete names bound lines → (x : ℕ) → times x (globals t names) ≤ 1
+global_times : (t : Axes) (names : List Found) (bound : ℕ) (lines : List Line) → IsComplete names bound lines → (x : ℕ) → times x (globals t names) ≤ 1
 global_times t names bound lines h x =
     let a = times-append x (globals t names) (opening ++ body names lines) in
     let b = few_times t names bound lines h x in
     omega (arith, a, b)
 
-pub definition_global : (t : Threads) (names : List Found) (bound : ℕ) (lines : List Line) → IsComplete names bound lines
+pub definition_global : (t : Axes) (names : List Found) (bound : ℕ) (lines : List Line) → IsComplete names bound lines
     → (i : Instr) (x : ℕ) → Member (globals t names) i → contains (ids_of i).results x ≡ true → definition (globals t names) x ≡ Some i
 definition_global t names bound lines h i x m c = definition_of x (globals t names) i (global_times t names bound lines h x) m c

@@ -1,12 +1,12 @@
 -- Instructions of names have operands of the sorts that they ask, where the ids of the names have theirs.
-use Rattle.std.proofs.Common.{◌≡◌, ℕ, ◌-◌, inl, inr, List, [], ◌∷◌, Bool, true, refl, sym, ap, subst, Some}
+use Rattle.std.proofs.Common.{◌≡◌, ℕ, ◌-◌, inl, inr, List, [], ◌∷◌, length, Bool, true, refl, sym, ap, subst, Some}
 use Rattle.std.specs.Prelude.{cond, flat_map, is_some}
 use Rattle.std.specs.List.{list_all}
 use Rattle.std.proofs.lemmas.Bool.{and_from}
 use Rattle.spirv_words.specs.Text.{Instr}
 use Rattle.spirv_words.specs.Ids.{definition, type_of}
-use Rattle.spirv_words.specs.Sorts.{Words, Pointer, Array, sort_of, literal_of, is_words, is_type}
-use Rattle.spirv_words.specs.Operands.{is_data, declares, is_sorted}
+use Rattle.spirv_words.specs.Sorts.{Words, Pointer, Array, sort_of, literal_of, is_words, is_type, is_data, is_data_by, is_data_within}
+use Rattle.spirv_words.specs.Operands.{declares, is_sorted}
 use Rattle.translator.specs.declared.names.Name.{Name}
 use Rattle.translator.specs.declared.names.Name.TheVariants.{Constant, Scratch, Registers, Shared}
 use Rattle.translator.specs.declared.names.Found.{Found}
@@ -59,7 +59,7 @@ module _ (code : List Instr) (names : List Found) where
     array_sorted (Registers w) id h =
         and_from _ _ (and_from _ _ (word_type code base) (length_holds (id_of names (Constant w)) w h.4))
         (and_from _ _ (type_holds code is_type (id - 3) (Array 5 w) h.2 refl)
-        (one _ (type_holds code is_data (id - 3) (Array 5 w) h.2 refl)))
+        (one _ (type_holds code (is_data code) (id - 3) (Array 5 w) h.2 (ap (is_data_by (is_data_within code (length code))) base.words))))
     array_sorted (Shared slot w) id h =
         and_from _ _ (and_from _ _ (word_type code base) (length_holds (id_of names (Constant w)) w h.3))
         (and_from _ _ (type_holds code is_type (id - 2) (Array 5 w) h.2 refl)

@@ -1,7 +1,7 @@
 -- Every id of the module is defined in front of its uses.
 use Rattle.std.proofs.Common.{◌≡◌, ℕ, ◌-◌, inl, inr, List, [], ◌∷◌, ◌++◌, true, refl, sym, ap, subst}
 use Rattle.std.proofs.lemmas.Bool.{and_from}
-use Rattle.tpf_program.specs.Declarations.{Threads}
+use Rattle.word_base.specs.Settings.{Axes}
 use Rattle.spirv_words.specs.Text.{Instr, instr}
 use Rattle.spirv_words.specs.Ids.{ids_of, contains}
 use Rattle.spirv_words.specs.Definitions.{uses_follow}
@@ -70,7 +70,7 @@ found_member [] f m = absurd m
 found_member (g ∷ fs) f (inl e) = inl (ap (λ z. z.name) e, ap (λ z. z.id) e)
 found_member (g ∷ fs) f (inr m) = inr (found_member fs f m)
 
-module _ (t : Threads) (names : List Found) (bound : ℕ) (lines : List Line) (h : IsComplete names bound lines) where
+module _ (t : Axes) (names : List Found) (bound : ℕ) (lines : List Line) (h : IsComplete names bound lines) where
   -- the ids seen behind constants, behind arrays, at the function's variables and at its lines
   abbrev at_constants : List ℕ
   at_constants = after [] (front t)

@@ -3,7 +3,7 @@ use Rattle.std.proofs.Common.{◌≡◌, ℕ, ◌+◌, ◌<◌, ◌⊎◌, inl, 
 use Rattle.std.specs.Prelude.{nat_eq, ◌||◌, not, IsTrue}
 use Rattle.std.specs.List.{list_all}
 use Rattle.std.proofs.lemmas.Bool.Decides.{nat_tests}
-use Rattle.tpf_program.specs.Declarations.{Threads}
+use Rattle.word_base.specs.Settings.{Axes}
 use Rattle.spirv_words.specs.Text.{Instr}
 use Rattle.spirv_words.specs.Ids.{ids_of, contains}
 use Rattle.spirv_words.specs.Blocks.{flow_of}
@@ -57,7 +57,7 @@ lines_stay : (ls : List Line) → list_all stays (code_of ls) ≡ true
 lines_stay [] = refl
 lines_stay (l ∷ ls) = rw (line_stays l, lines_stay ls) refl
 
-globals_stay : (t : Threads) (names : List Found) → list_all stays (globals t names) ≡ true
+globals_stay : (t : Axes) (names : List Found) → list_all stays (globals t names) ≡ true
 globals_stay t names =
     append_all stays (constants names) (arrays names names)
     (flat_all stays (λ f. constant f.name f.id) names (λ f. constant_stays f.name f.id))
@@ -88,7 +88,7 @@ home_by x y p q (inl n) = grind (arith, nat_tests)
 home_by x y p q (inr (inl e)) = grind (arith, nat_tests)
 home_by x y p q (inr (inr e)) = grind (arith, nat_tests)
 
-module _ (t : Threads) (names : List Found) (bound : ℕ) (lines : List Line) where
+module _ (t : Axes) (names : List Found) (bound : ℕ) (lines : List Line) where
   abbrev AtHome : Home → Type 0
   AtHome home = (home.block ≡ 0) ⊎ ((home.block ≡ 1) × (0 < times home.id (code_of lines)))
 

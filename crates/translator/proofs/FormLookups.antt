@@ -3,7 +3,7 @@ use Rattle.std.proofs.Common.{◌≡◌, ℕ, ◌-◌, inl, inr, List, [], ◌�
 use Rattle.std.specs.Prelude.{nat_eq, not, cond}
 use Rattle.std.specs.List.{list_all}
 use Rattle.std.proofs.lemmas.Bool.{or_right, and_parts}
-use Rattle.tpf_program.specs.Declarations.{Threads}
+use Rattle.word_base.specs.Settings.{Axes}
 use Rattle.spirv_words.specs.Text.{Instr, instr}
 use Rattle.spirv_words.specs.Ids.{ids_of, contains, definition, declared, in_front_of, is_function}
 use Rattle.translator.specs.declared.line.Line.{Line}
@@ -47,18 +47,18 @@ array_plain (Scratch w) length id = refl
 array_plain (Registers w) length id = refl
 array_plain (Shared s w) length id = refl
 
-globals_plain : (t : Threads) (names : List Found) → list_all is_no_function (globals t names) ≡ true
+globals_plain : (t : Axes) (names : List Found) → list_all is_no_function (globals t names) ≡ true
 globals_plain t names =
     append_all is_no_function (constants names) (arrays names names)
     (flat_all is_no_function (λ f. constant f.name f.id) names (λ f. constant_plain f.name f.id))
     (flat_all is_no_function (λ f. array f.name (id_of names (length_name f.name)) f.id) names
     (λ f. array_plain f.name (id_of names (length_name f.name)) f.id))
 
-pub declared_of : (t : Threads) (names : List Found) (bound : ℕ) (lines : List Line) → declared (module_of t names bound lines).code ≡ globals t names
+pub declared_of : (t : Axes) (names : List Found) (bound : ℕ) (lines : List Line) → declared (module_of t names bound lines).code ≡ globals t names
 declared_of t names bound lines = declared_through (globals t names) (body names lines) (globals_plain t names)
 
 -- the module's own types
-pub type_defined : (t : Threads) (names : List Found) (bound : ℕ) (lines : List Line) (x : ℕ) (i : Instr) → definition (globals t names) x ≡ Some i
+pub type_defined : (t : Axes) (names : List Found) (bound : ℕ) (lines : List Line) (x : ℕ) (i : Instr) → definition (globals t names) x ≡ Some i
     → definition (declared (module_of t names bound lines).code) x ≡ Some i
 type_defined t names bound lines x i e = ap (λ g. definition g x) (declared_of t names bound lines) ∙ e
 
@@ -68,7 +68,7 @@ among_result x [] m = absurd m
 among_result x (y ∷ ys) (inl e) = subst (λ z. contains (z ∷ ys) x ≡ true) (sym e) (contains_first x ys)
 among_result x (y ∷ ys) (inr m) = or_right (nat_eq y x) (contains ys x) (among_result x ys m)
 
-module _ (t : Threads) (names : List Found) (bound : ℕ) (lines : List Line) (h : IsComplete names bound lines) where
+module _ (t : Axes) (names : List Found) (bound : ℕ) (lines : List Line) (h : IsComplete names bound lines) where
   -- by their instruction, in front of the function and in the whole
   pub declared_by_member : (i : Instr) (x : ℕ) → Member (globals t names) i → contains (ids_of i).results x ≡ true
       → definition (declared (module_of t names bound lines).code) x ≡ Some i

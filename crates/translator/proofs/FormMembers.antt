@@ -5,7 +5,7 @@ use Rattle.std.specs.List.{list_all}
 use Rattle.std.proofs.lemmas.Bool.{and_from, and_parts}
 use Rattle.std.proofs.lemmas.Bool.Decides.{nat_tests}
 use Rattle.std.proofs.lemmas.List.Folds.{list_all-append}
-use Rattle.tpf_program.specs.Declarations.{Threads}
+use Rattle.word_base.specs.Settings.{Axes}
 use Rattle.spirv_words.specs.Text.{Instr}
 use Rattle.translator.specs.declared.line.Line.{Line}
 use Rattle.translator.specs.declared.names.Name.{Name}
@@ -65,7 +65,7 @@ line_member [] l m = absurd m
 line_member (k ∷ ls) l (inl e) = inl (ap instr_of e)
 line_member (k ∷ ls) l (inr m) = inr (line_member ls l m)
 
-module _ (t : Threads) (names : List Found) (bound : ℕ) (lines : List Line) where
+module _ (t : Axes) (names : List Found) (bound : ℕ) (lines : List Line) where
   pub constant_global : (n : Name) (id : ℕ) (i : Instr) → Has names n id → Member (constant n id) i → Member (globals t names) i
   constant_global n id i h m =
       member_right (front t) (constants names ++ arrays names names) i (member_left (constants names) (arrays names names) i (named_member constant names n id i h m))

@@ -4,7 +4,7 @@ use Rattle.std.specs.Prelude.{nat_eq, is_some, IsTrue}
 use Rattle.std.specs.List.{list_all}
 use Rattle.std.proofs.lemmas.Bool.{and_from, lt-ltb}
 use Rattle.std.proofs.lemmas.Bool.Decides.{nat_tests}
-use Rattle.tpf_program.specs.Declarations.{Threads}
+use Rattle.word_base.specs.Settings.{Axes}
 use Rattle.spirv_words.specs.Text.{Instr, instr}
 use Rattle.spirv_words.specs.Ids.{ids_of, contains, definition}
 use Rattle.spirv_words.specs.Operands.{is_defined}
@@ -67,10 +67,10 @@ lines_names : (xs : List ℕ) (ls : List Line) → list_all (names_in xs) (code_
 lines_names xs [] = refl
 lines_names xs (l ∷ ls) = and_from _ _ (line_names xs l) (lines_names xs ls)
 
-front_names : (t : Threads) (xs : List ℕ) → Sees xs 1 → list_all (names_in xs) (front t) ≡ true
+front_names : (t : Axes) (xs : List ℕ) → Sees xs 1 → list_all (names_in xs) (front t) ≡ true
 front_names t xs h = and_from _ _ (one _ h) (and_from _ _ (one _ h) refl)
 
-module _ (t : Threads) (names : List Found) (bound : ℕ) (lines : List Line) where
+module _ (t : Axes) (names : List Found) (bound : ℕ) (lines : List Line) where
   pub globals_named : (xs : List ℕ) → Sees xs 1 → list_all (names_in xs) (globals t names) ≡ true
   globals_named xs h =
       append_all (names_in xs) (front t) (constants names ++ arrays names names) (front_names t xs h)

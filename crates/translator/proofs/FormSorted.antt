@@ -1,13 +1,13 @@
 -- Instructions of names and lines have operands of the sorts that they ask, where types, names and the ids in front of them have theirs.
 use Rattle.std.proofs.Common.{◌≡◌, ℕ, inl, inr, List, [], ◌∷◌, ◌++◌, Bool, true, false, refl, ap, ◌∙◌, subst, Some}
-use Rattle.std.specs.Prelude.{cond, is_some, nat_eq, ◌&&◌, ◌||◌}
+use Rattle.std.specs.Prelude.{cond, is_some, nat_eq, ◌&&◌}
 use Rattle.std.specs.List.{list_all}
 use Rattle.std.proofs.lemmas.Bool.{and_from}
-use Rattle.tpf_program.specs.Declarations.{Threads}
+use Rattle.word_base.specs.Settings.{Axes}
 use Rattle.spirv_words.specs.Text.{Instr}
 use Rattle.spirv_words.specs.Ids.{definition, type_of, type_of_instr}
-use Rattle.spirv_words.specs.Sorts.{Sort, Void, Words, Pointer, Array, Function, sort_of, sort_of_type, sort_of_value, is_words, is_type, points_to_word}
-use Rattle.spirv_words.specs.Operands.{value_is, type_is, has_type, is_just, loads, chains, chain_way, way_by, index_way, leads_to, is_pointer, is_pointer_to, is_loaded, returns, is_sorted}
+use Rattle.spirv_words.specs.Sorts.{Sort, Void, Words, Pointer, Array, Function, sort_of, sort_of_type, sort_of_value, is_words, is_type, is_data, moves, same_type}
+use Rattle.spirv_words.specs.Operands.{value_is, type_is, has_type, is_same, loads, stores, chains, chain_way, way_by, index_way, leads_to, is_pointer, is_pointer_to, returns, is_sorted}
 use Rattle.translator.specs.declared.line.Line.{Line}
 use Rattle.translator.specs.declared.line.Line.TheVariants.{Load, Sum, Point, PointShared, Store, StoreShared}
 use Rattle.translator.specs.Lines.{Kind, AWord, APlace, AnArray, ASharedPlace, ASharedArray, Typed, In, typed_result, Takes, AreTyped, instr_of, code_of, result_of}
@@ -47,8 +47,11 @@ module _ (code : List Instr) where
   value_holds test x t s e f h =
       if_true (is_some (definition code x)) (test (sort_of_value code x)) (ap (λ o. test (sort_of_type code o)) e ∙ ap test f ∙ h)
 
+  same_holds : (t : ℕ) → same_type code t t ≡ true
+  same_holds t = rw (same_id t) refl
+
   pub typed_holds : (x t : ℕ) → type_of code x ≡ Some t → has_type code x t ≡ true
-  typed_holds x t e = if_true (is_some (definition code x)) (is_just (type_of code x) t) (ap (λ o. is_just o t) e ∙ same_id t)
+  typed_holds x t e = if_true (is_some (definition code x)) (is_same code (type_of code x) t) (ap (λ o. is_same code o t) e ∙ same_holds t)
 
   module _ (base : Base) where
     word_holds : (x : ℕ) → OfKind AWord x → value_is code is_words x ≡ true
@@ -58,22 +61,28 @@ module _ (code : List Instr) where
     word_type = type_holds is_type 5 Words base.words refl
 
     -- loads and stores of a place of a word
-    loads_word : (class : ℕ) → loads code 5 (Pointer class 5) ≡ true
-    loads_word class = type_holds (λ s. nat_eq 5 5 && (is_words s || nat_eq class 1)) 5 Words base.words refl
+    loads_word : loads code 5 (Pointer 7 5) ≡ true
+    loads_word = type_holds (λ s. same_type code 5 5 && moves code 7 s) 5 Words base.words refl
 
-    points_word : (class : ℕ) → points_to_word code (Pointer class 5) ≡ true
-    points_word class = ap is_words base.words
+    stores_word : (x : ℕ) → OfKind AWord x → stores code x (Pointer 7 5) ≡ true
+    stores_word x k = and_from (moves code 7 (sort_of code 5)) (has_type code x 5) (ap (moves code 7) base.words) (typed_holds x 5 k)
+
+    stores_shared : (x : ℕ) → OfKind AWord x → stores code x (Pointer 4 5) ≡ true
+    stores_shared x k = and_from (moves code 4 (sort_of code 5)) (has_type code x 5) (ap (moves code 4) base.words) (typed_holds x 5 k)
+
+    data_holds : (x : ℕ) → OfKind AWord x → value_is code (is_data code) x ≡ true
+    data_holds x k = value_holds (is_data code) x 5 Words k base.words refl
 
     -- a place in an array
     chains_word : (class t a w x : ℕ) → sort_of code t ≡ Pointer class 5 → sort_of code a ≡ Array 5 w → chains code t (x ∷ []) (Pointer class a) ≡ true
     chains_word class t a w x e f =
-        ap (λ s. leads_to (way_by code (chain_way code []) (index_way code s x)) (λ u. type_is code (λ z. is_pointer_to z class u) t)) f
-        ∙ type_holds (λ z. is_pointer_to z class 5) t (Pointer class 5) e (one _ (same_id class))
+        ap (λ s. leads_to (way_by code (chain_way code []) (index_way code s x)) (λ u. type_is code (λ z. is_pointer_to code z class u) t)) f
+        ∙ type_holds (λ z. is_pointer_to code z class 5) t (Pointer class 5) e (one _ (same_id class))
 
     line_sorted : (known : List Typed) (l : Line) → ((x : ℕ) (kind : Kind) → In known x kind → OfKind kind x) → Takes known l
         → is_sorted code (instr_of l) ≡ true
     line_sorted known (Load result pointer) h k =
-        and_from _ _ (type_holds (is_loaded code) 5 Words base.words refl) (value_holds (loads code 5) pointer 6 (Pointer 7 5) (h pointer APlace k) base.place (loads_word 7))
+        and_from _ _ (type_holds (is_data code) 5 Words base.words refl) (value_holds (loads code 5) pointer 6 (Pointer 7 5) (h pointer APlace k) base.place loads_word)
     line_sorted known (Sum result a b) h k =
         and_from _ _ (type_holds is_words 5 Words base.words refl) (two _ _ (word_holds a (h a AWord k.0)) (word_holds b (h b AWord k.1)))
     line_sorted known (Point result array index) h k =
@@ -87,11 +96,12 @@ module _ (code : List Instr) where
         (and_from _ _ (one _ (word_holds index (h index AWord k.1)))
         (value_holds (chains code 7 (index ∷ [])) array p.0 (Pointer 4 p.1) p.3 p.4 (chains_word 4 7 p.1 p.2 index base.shared p.5)))
     line_sorted known (Store pointer value) h k =
-        and_from _ _ (value_holds (points_to_word code) pointer 6 (Pointer 7 5) (h pointer APlace k.0) base.place (points_word 7))
-        (word_holds value (h value AWord k.1))
+        and_from _ _ (value_holds (stores code value) pointer 6 (Pointer 7 5) (h pointer APlace k.0) base.place (stores_word value (h value AWord k.1)))
+        (data_holds value (h value AWord k.1))
     line_sorted known (StoreShared slot pointer value) h k =
-        and_from _ _ (value_holds (points_to_word code) pointer 7 (Pointer 4 5) (h pointer (ASharedPlace slot) k.0) base.shared (points_word 4))
-        (word_holds value (h value AWord k.1))
+        and_from _ _
+        (value_holds (stores code value) pointer 7 (Pointer 4 5) (h pointer (ASharedPlace slot) k.0) base.shared (stores_shared value (h value AWord k.1)))
+        (data_holds value (h value AWord k.1))
 
     -- a line's result is of its kind
     line_kind : (known : List Typed) (l : Line) → ((x : ℕ) → Among (result_of l) x → definition code x ≡ Some (instr_of l))
@@ -120,7 +130,7 @@ module _ (code : List Instr) where
         (lines_sorted (typed_result l ++ known) ls (λ z m. d z (inr m)) (line_kind known l (d l (inl refl)) h) k.1)
 
     -- the front and the opening
-    pub front_sorted : (t : Threads) → list_all (is_sorted code) (front t) ≡ true
+    pub front_sorted : (t : Axes) → list_all (is_sorted code) (front t) ≡ true
     front_sorted t =
         and_from _ _ (one _ (type_holds is_type 2 Void base.void refl)) (two _ _ word_type word_type)
 

@@ -2,8 +2,7 @@
 use Rattle.std.proofs.Common.{◌≡◌, ℕ, ◌-◌, List, [], ◌∷◌, ◌++◌, true, refl, ap, ◌∙◌, Some}
 use Rattle.std.specs.Prelude.{IsTrue}
 use Rattle.word_base.specs.declared.event.Room.TheVariants as room
-use Rattle.word_base.specs.Settings.{Setting}
-use Rattle.tpf_program.specs.Declarations.{Threads}
+use Rattle.word_base.specs.Settings.{Setting, Axes}
 use Rattle.spirv_words.specs.Text.{Instr, instr}
 use Rattle.spirv_words.specs.Ids.{definition, declared, type_of, type_of_instr}
 use Rattle.spirv_words.specs.Sorts.{Array, array_by, sort_of, sort_of_instr, sort_of_type, literal_of, literal_of_instr}
@@ -28,7 +27,7 @@ use Rattle.translator.proofs.FormSingle.{all_defined}
 use Rattle.translator.proofs.FormSorted.{Base, lines_sorted, front_sorted, opening_sorted}
 use Rattle.translator.proofs.FormFits.{Fits, constants_sorted, arrays_sorted, locals_sorted, known_kind}
 
-module _ (t : Threads) (names : List Found) (bound : ℕ) (lines : List Line) where
+module _ (t : Axes) (names : List Found) (bound : ℕ) (lines : List Line) where
   -- the module's own types
   sort_by_declared : (x : ℕ) (i : Instr) → definition (declared (module_of t names bound lines).code) x ≡ Some i
       → sort_of (module_of t names bound lines).code x ≡ sort_of_instr (module_of t names bound lines).code (Some i)

@@ -22,6 +22,9 @@ same_id x = grind (arith, nat_tests)
 pub equal : (x y : ℕ) → nat_eq x y ≡ true → x ≡ y
 equal x y e = grind (arith, nat_tests)
 
+pub unequal : (x y : ℕ) → nat_eq x y ≡ false → x ≡ y → ⊥
+unequal x y e h = grind (arith, nat_tests)
+
 pub contains_first : (x : ℕ) (xs : List ℕ) → contains (x ∷ xs) x ≡ true
 contains_first x xs = or_left (nat_eq x x) (contains xs x) (same_id x)
 

@@ -6,7 +6,7 @@ use Rattle.std.proofs.lemmas.Bool.{and_from, and_parts, not_from_false, not-true
 use Rattle.std.proofs.lemmas.Bool.Decides.{nat_tests}
 use Rattle.std.proofs.lemmas.List.Folds.{list_any-append}
 use Rattle.std.proofs.lemmas.List.Elements.{filter-append}
-use Rattle.tpf_program.specs.Declarations.{Threads}
+use Rattle.word_base.specs.Settings.{Axes}
 use Rattle.spirv_words.specs.Text.{Instr, instr}
 use Rattle.spirv_words.specs.Operations.{op_of}
 use Rattle.spirv_words.specs.Definitions.{is_single_type, is_same_type, types_differ, has_distinct_types}
@@ -167,7 +167,7 @@ pointers_differ from (f ∷ fs) to r =
     let q = member_named pointer fs j k in
     pointer_unlike f.name q.0 f.id q.1 i j (rises_has (f.id + 1) fs to q.0 q.1 tail q.2) (omega (arith, head)) m q.3)
 
-module _ (t : Threads) (names : List Found) (bound : ℕ) (lines : List Line) where
+module _ (t : Axes) (names : List Found) (bound : ℕ) (lines : List Line) where
   rest_none : filter is_single (opening ++ body names lines) ≡ []
   rest_none =
       append_none (locals names names) (code_of lines ++ closing)

@@ -14,7 +14,7 @@ use Rattle.translator.specs.declared.names.Name.{Name}
 use Rattle.translator.specs.declared.names.Name.TheVariants.{Constant, Scratch, Registers, Shared}
 use Rattle.translator.specs.declared.names.Found.{Found}
 use Rattle.translator.specs.declared.tree.Tree.{Tree}
-use Rattle.translator.specs.Bindings.{numbers_from}
+use Rattle.std.specs.List.{range_with_len}
 use Rattle.translator.specs.Emission.{Among, Grows, HasSlots, Lowers}
 use Rattle.translator.specs.Finished.{shared_slots}
 use Rattle.translator.specs.Found.{Has}
@@ -98,10 +98,10 @@ kept_among test [] y h k = k
 kept_among test (x ∷ xs) y h (inl e) = among_cond (test x) x y (filter test xs) (λ q. ap test q ∙ h) (e, λ z. z)
 kept_among test (x ∷ xs) y h (inr k) = among_later (test x) x y (filter test xs) (kept_among test xs y h k)
 
-is_number : (n k y : ℕ) → n ≤ y → y < n + k → Among (numbers_from n k) y
+is_number : (n k y : ℕ) → n ≤ y → y < n + k → Among (range_with_len n k) y
 is_number n zero y le lt = absurd (omega (arith, le, lt))
 is_number n (suc k) y le lt = by_test (nat_eq n y) refl (λ h. is_number (n + 1) k y h (omega (arith, lt))) where
-  by_test : (b : Bool) → nat_eq n y ≡ b → (n + 1 ≤ y → Among (numbers_from (n + 1) k) y) → Among (numbers_from n (suc k)) y
+  by_test : (b : Bool) → nat_eq n y ≡ b → (n + 1 ≤ y → Among (range_with_len (n + 1) k) y) → Among (range_with_len n (suc k)) y
   by_test true e go = inl (grind (arith, nat_tests, e))
   by_test false e go = inr (go (grind (arith, nat_tests, e, le)))
 
@@ -110,7 +110,7 @@ pub declared_slot : (p : Shader) (e : Emitter) (slot : ℕ) → Begun p e → sl
 declared_slot p e slot b lt k =
     let t : nat_lt 0 (shared_extent slot p.declarations) ≡ true = grind (arith, nat_tests, k) in
     named_slot e.names.items slot
-    (subst (λ l. Among l slot) (sym b.slots) (kept_among (λ s. nat_lt 0 (shared_extent s p.declarations)) (numbers_from 0 64) slot t (is_number 0 64 slot (omega arith) (omega (arith, lt)))))
+    (subst (λ l. Among l slot) (sym b.slots) (kept_among (λ s. nat_lt 0 (shared_extent s p.declarations)) (range_with_len 0 64) slot t (is_number 0 64 slot (omega arith) (omega (arith, lt)))))
 
 each_slot : (names : List Found) (slot : ℕ) (cs : List ℕ) → ((words : ℕ) × (id : ℕ) × Has names (Shared slot words) id) → HasSlots names (map (λ c. slot) cs)
 each_slot names slot [] h = tt

@@ -1,10 +1,11 @@
 pub mod Ends
 pub mod Follows
-pub mod Threads
 pub mod Whole
 pub mod Answered
 pub mod Computed
 pub mod Summed
+pub mod Buffered
+pub mod ShapeRefuted
 pub mod Picks
 pub mod Sequel
 pub mod Composed
@@ -69,9 +70,9 @@ pub mod RaiseNodes
 pub mod RaiseStatements
 pub mod RaisePlans
 pub mod RaiseStores
+pub mod RaiseMeanings
 pub mod RaiseWhole
 pub mod RaiseQuiet
 pub mod RaiseLanes
 pub mod EmitFinish
 pub mod EmitComplete
-pub mod Sizes

@@ -5,14 +5,14 @@ use Rattle.spirv_words.specs.Text.{Instr, is_instr}
 use Rattle.spirv_words.specs.Blocks.{Flow, Plain, Local, Begins, Closes, Label, Merge, LoopMerge, Branch, Choose, Switch, Leave, flow_of, next_block, edges_of_flow, edges_from, edges, block_of, spans_of_flow, spans_from, spans}
 use Rattle.spirv_words.specs.Structure.{InFront, AtVariables, InBlock, AtEnd, walk, walk_on, has_blocks, NoMerge, merge_before, may_follow, follow, has_merges, has_branches, has_switch_order}
 use Rattle.spirv_words.specs.Sections.{has_header}
-use Rattle.tpf_program.specs.Declarations.{Threads}
+use Rattle.word_base.specs.Settings.{Axes}
 use Rattle.translator.specs.declared.line.Line.{Line}
 use Rattle.translator.specs.declared.names.Found.{Found}
 use Rattle.translator.specs.Lines.{code_of}
 use Rattle.translator.specs.Parts.{front, globals, opening, locals, body, closing, module_of}
 use Rattle.translator.proofs.ModuleFormEach.{Each, InFront as AreGlobals, OfLine, Throughout, each_global, each_locals, each_line, throughout}
 
-pub header : (t : Threads) (names : List Found) (bound : ℕ) (lines : List Line) → IsTrue (has_header 0x00010300 (module_of t names bound lines))
+pub header : (t : Axes) (names : List Found) (bound : ℕ) (lines : List Line) → IsTrue (has_header 0x00010300 (module_of t names bound lines))
 header t names bound lines = refl
 
 -- each instruction fits its layout
@@ -36,7 +36,7 @@ pub all_of : (test : Instr → Bool) (code : List Instr) → Each (λ i. test i 
 all_of test [] h = refl
 all_of test (i ∷ is) h = and_true (test i) (list_all test is) h.0 (all_of test is h.1)
 
-pub instructions : (t : Threads) (names : List Found) (bound : ℕ) (lines : List Line) → IsTrue (list_all is_instr (module_of t names bound lines).code)
+pub instructions : (t : Axes) (names : List Found) (bound : ℕ) (lines : List Line) → IsTrue (list_all is_instr (module_of t names bound lines).code)
 instructions t names bound lines = all_of is_instr (module_of t names bound lines).code (throughout Fits fits t names bound lines)
 
 -- Blocks: the list is walked through.
@@ -68,16 +68,16 @@ plain_globals = record { constant = λ id w. refl; array = λ id length. refl; p
 plain_lines : OfLine IsPlain
 plain_lines = record { load = λ result pointer. refl; sum = λ result a b. refl; chain = λ type result array index. refl; store = λ pointer value. refl }
 
-plain_front : (t : Threads) → Each IsPlain (front t)
+plain_front : (t : Axes) → Each IsPlain (front t)
 plain_front t = (refl, (refl, (refl, (refl, (refl, (refl, (refl, (refl, (refl, tt)))))))))
 
-walked : (t : Threads) (names : List Found) (bound : ℕ) (lines : List Line) → walk InFront (module_of t names bound lines).code ≡ AtEnd
+walked : (t : Axes) (names : List Found) (bound : ℕ) (lines : List Line) → walk InFront (module_of t names bound lines).code ≡ AtEnd
 walked t names bound lines =
     walk_front (globals t names) (opening ++ body names lines) (each_global IsPlain plain_globals t names (plain_front t))
     ∙ (walk_variables (locals names names) (code_of lines ++ closing) (each_locals IsLocal (λ pointer id value. refl) names names)
     ∙ walk_lines (code_of lines) (each_line IsPlain plain_lines lines))
 
-pub blocks : (t : Threads) (names : List Found) (bound : ℕ) (lines : List Line) → IsTrue (has_blocks (module_of t names bound lines).code)
+pub blocks : (t : Axes) (names : List Found) (bound : ℕ) (lines : List Line) → IsTrue (has_blocks (module_of t names bound lines).code)
 blocks t names bound lines = rw (walked t names bound lines) refl
 
 -- Nothing branches but the return, and nothing merges.
@@ -168,11 +168,11 @@ branches_of code h = let e : edges code ≡ [] = no_edges (block_of code) code 0
 order_of : (code : List Instr) → Each Stays code → has_switch_order code ≡ true
 order_of code h = let e : spans code ≡ [] = no_spans (block_of code) code 0 h in rw e refl
 
-pub merges : (t : Threads) (names : List Found) (bound : ℕ) (lines : List Line) → IsTrue (has_merges (module_of t names bound lines).code)
+pub merges : (t : Axes) (names : List Found) (bound : ℕ) (lines : List Line) → IsTrue (has_merges (module_of t names bound lines).code)
 merges t names bound lines = merges_of (module_of t names bound lines).code (throughout Stays stays t names bound lines)
 
-pub branches : (t : Threads) (names : List Found) (bound : ℕ) (lines : List Line) → IsTrue (has_branches (module_of t names bound lines).code)
+pub branches : (t : Axes) (names : List Found) (bound : ℕ) (lines : List Line) → IsTrue (has_branches (module_of t names bound lines).code)
 branches t names bound lines = branches_of (module_of t names bound lines).code (throughout Stays stays t names bound lines)
 
-pub switch_order : (t : Threads) (names : List Found) (bound : ℕ) (lines : List Line) → IsTrue (has_switch_order (module_of t names bound lines).code)
+pub switch_order : (t : Axes) (names : List Found) (bound : ℕ) (lines : List Line) → IsTrue (has_switch_order (module_of t names bound lines).code)
 switch_order t names bound lines = order_of (module_of t names bound lines).code (throughout Stays stays t names bound lines)

@@ -1,7 +1,7 @@
 -- A fact of each instruction of a module of names and lines.
 use Rattle.std.proofs.Common.{ℕ, ◌-◌, List, [], ◌∷◌, ◌++◌}
 use Rattle.spirv_words.specs.Text.{Instr, instr}
-use Rattle.tpf_program.specs.Declarations.{Threads}
+use Rattle.word_base.specs.Settings.{Axes}
 use Rattle.translator.specs.declared.line.Line.{Line}
 use Rattle.translator.specs.declared.line.Line.TheVariants.{Load, Sum, Point, PointShared, Store, StoreShared}
 use Rattle.translator.specs.declared.names.Name.{Name}
@@ -54,7 +54,7 @@ each_arrays P p names (f ∷ fs) =
 pub each_sized : (P : Instr → Type 0) (p : InFront P) (names : List Found) → Each P (constants names ++ arrays names names)
 each_sized P p names = each_append P (constants names) (arrays names names) (each_constants P p names) (each_arrays P p names names)
 
-pub each_global : (P : Instr → Type 0) (p : InFront P) (t : Threads) (names : List Found) → Each P (front t) → Each P (globals t names)
+pub each_global : (P : Instr → Type 0) (p : InFront P) (t : Axes) (names : List Found) → Each P (front t) → Each P (globals t names)
 each_global P p t names x = each_append P (front t) (constants names ++ arrays names names) x (each_sized P p names)
 
 -- The fact holds of the function's variables.
@@ -91,14 +91,14 @@ each_line P p (StoreShared slot pointer value ∷ ls) = (p.store pointer value, 
 
 -- The fact holds throughout a module.
 pub record Throughout (P : Instr → Type 0) : Type 0 where
-  pub front : (t : Threads) → Each P (front t)
+  pub front : (t : Axes) → Each P (front t)
   pub globals : InFront P
   pub opening : Each P opening
   pub locals : OfLocal P
   pub lines : OfLine P
   pub closing : Each P closing
 
-pub throughout : (P : Instr → Type 0) (p : Throughout P) (t : Threads) (names : List Found) (bound : ℕ) (lines : List Line)
+pub throughout : (P : Instr → Type 0) (p : Throughout P) (t : Axes) (names : List Found) (bound : ℕ) (lines : List Line)
     → Each P (module_of t names bound lines).code
 throughout P p t names bound lines =
     each_append P (globals t names) (opening ++ body names lines) (each_global P p.globals t names (p.front t))

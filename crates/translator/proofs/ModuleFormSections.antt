@@ -5,8 +5,8 @@ use Rattle.std.specs.List.{filter}
 use Rattle.std.proofs.lemmas.Bool.{eq-eqb}
 use Rattle.spirv_words.specs.Text.{Instr, instr}
 use Rattle.spirv_words.specs.Ids.{declared}
-use Rattle.spirv_words.specs.Sections.{Declaration, section_of, is_declaration, is_body, behind_all, is_mode, sized, is_function, is_void_function, ends_function, has_rest, has_sections, listed, interface_of, is_variable_of, variables_of, listed_classes, has_interface}
-use Rattle.tpf_program.specs.Declarations.{Threads}
+use Rattle.word_base.specs.Settings.{axes, Axes}
+use Rattle.spirv_words.specs.Sections.{Declaration, section_of, is_declaration, is_body, behind_all, is_mode, is_function, is_void_function, ends_function, has_rest, has_sections, listed, interface_of, is_variable_of, variables_of, listed_classes, has_interface}
 use Rattle.translator.specs.declared.line.Line.{Line}
 use Rattle.translator.specs.declared.names.Found.{Found}
 use Rattle.translator.specs.Lines.{code_of}
@@ -48,11 +48,11 @@ rest_of : (declarations sizes inside : List Instr) → Each IsDeclared sizes →
 rest_of declarations sizes inside d v e =
     ap (λ code. is_function declarations 1 code) (behind_declared sizes (opening ++ inside) d) ∙ main declarations inside v e
 
-sections_of : (t : Threads) (sizes inside : List Instr) → Each IsDeclared sizes
+sections_of : (t : Axes) (sizes inside : List Instr) → Each IsDeclared sizes
     → is_void_function (declared (front t ++ (sizes ++ (opening ++ inside)))) 1 (2 ∷ 1 ∷ 0 ∷ 3 ∷ []) ≡ true
-    → ends_function (instr 248 (4 ∷ []) ∷ inside) ≡ true → has_sections (sized t.x t.y t.z) (front t ++ (sizes ++ (opening ++ inside))) ≡ true
+    → ends_function (instr 248 (4 ∷ []) ∷ inside) ≡ true → has_sections (axes t.x t.y t.z) (front t ++ (sizes ++ (opening ++ inside))) ≡ true
 sections_of t sizes inside d v e =
-    and_true (is_mode (sized t.x t.y t.z) 1 (instr 16 (1 ∷ 17 ∷ t.x ∷ t.y ∷ t.z ∷ [])))
+    and_true (is_mode (axes t.x t.y t.z) 1 (instr 16 (1 ∷ 17 ∷ t.x ∷ t.y ∷ t.z ∷ [])))
     (has_rest (declared (front t ++ (sizes ++ (opening ++ inside)))) 1 (types ++ (sizes ++ (opening ++ inside))))
     (rw (eq-eqb t.x t.x refl, eq-eqb t.y t.y refl, eq-eqb t.z t.z refl) refl)
     (rest_of (declared (front t ++ (sizes ++ (opening ++ inside)))) sizes inside d v e)
@@ -67,8 +67,8 @@ in_body names lines =
     let v : OfLocal IsInBody = λ pointer id value. refl in
     (refl, each_append IsInBody (locals names names) (code_of lines) (each_locals IsInBody v names names) (each_line IsInBody l lines))
 
-pub sections : (t : Threads) (names : List Found) (bound : ℕ) (lines : List Line)
-    → IsTrue (has_sections (sized t.x t.y t.z) (module_of t names bound lines).code)
+pub sections : (t : Axes) (names : List Found) (bound : ℕ) (lines : List Line)
+    → IsTrue (has_sections (axes t.x t.y t.z) (module_of t names bound lines).code)
 sections t names bound lines =
     sections_of t (constants names ++ arrays names names) (body names lines) (each_sized IsDeclared declared_sizes names)
     (subst (λ ds. is_void_function ds 1 (2 ∷ 1 ∷ 0 ∷ 3 ∷ []) ≡ true) (sym (declared_of t names bound lines)) refl)
@@ -102,11 +102,11 @@ none_found test (i ∷ is) h = rw (h.0) (none_found test is h.1)
 abbrev pub OfVariables : (Instr → Bool) → Type 0
 OfVariables test = (i : Instr) → nat_eq i.op 59 ≡ false → test i ≡ false
 
-pub of_front : (test : Instr → Bool) → OfVariables test → (t : Threads) → Each (λ i. test i ≡ false) (front t)
+pub of_front : (test : Instr → Bool) → OfVariables test → (t : Axes) → Each (λ i. test i ≡ false) (front t)
 of_front test v t = (v _ refl, (v _ refl, (v _ refl, (v _ refl, (v _ refl, (v _ refl, (v _ refl, (v _ refl, (v _ refl, tt)))))))))
 
 none_global : (test : Instr → Bool) → OfVariables test → ((pointer id : ℕ) → test (instr 59 (pointer ∷ id ∷ 4 ∷ [])) ≡ false)
-    → (t : Threads) (names : List Found) → filter test (globals t names) ≡ []
+    → (t : Axes) (names : List Found) → filter test (globals t names) ≡ []
 none_global test v s t names =
     none_found test (globals t names)
     (each_global (λ i. test i ≡ false) (record {
@@ -122,13 +122,13 @@ none_global test v s t names =
 pub variable_test : (classes : ℕ → Bool) → OfVariables (is_variable_of classes)
 variable_test classes i h = rw (h) refl
 
-pub no_variables : (classes : ℕ → Bool) (t : Threads) (names : List Found) (bound : ℕ) (lines : List Line) → classes 4 ≡ false
+pub no_variables : (classes : ℕ → Bool) (t : Axes) (names : List Found) (bound : ℕ) (lines : List Line) → classes 4 ≡ false
     → variables_of classes (module_of t names bound lines).code ≡ []
 no_variables classes t names bound lines h =
     ap (λ ds. map (λ i. slice_index i.operands 1) (filter (is_variable_of classes) ds)) (declared_of t names bound lines)
     ∙ ap (λ is. map (λ i. slice_index i.operands 1) is) (none_global (is_variable_of classes) (variable_test classes) (λ pointer id. h) t names)
 
-pub interface : (t : Threads) (names : List Found) (bound : ℕ) (lines : List Line) → IsTrue (has_interface 0x00010300 (module_of t names bound lines).code)
+pub interface : (t : Axes) (names : List Found) (bound : ℕ) (lines : List Line) → IsTrue (has_interface 0x00010300 (module_of t names bound lines).code)
 interface t names bound lines =
     rw (
       none_listed (module_of t names bound lines).code (throughout ListsNothing lists_nothing t names bound lines),

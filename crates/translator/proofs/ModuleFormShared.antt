@@ -7,7 +7,7 @@ use Rattle.std.proofs.lemmas.List.Elements.{filter-append}
 use Rattle.spirv_words.specs.Text.{Instr, instr}
 use Rattle.spirv_words.specs.Globals.{is_workgroup, workgroup_ids}
 use Rattle.spirv_words.specs.Sections.{is_variable_of, variables_of}
-use Rattle.tpf_program.specs.Declarations.{Threads}
+use Rattle.word_base.specs.Settings.{Axes}
 use Rattle.translator.specs.declared.line.Line.{Line}
 use Rattle.translator.specs.declared.names.Name.{Name}
 use Rattle.translator.specs.declared.names.Name.TheVariants.{Constant, Scratch, Registers, Shared}
@@ -59,12 +59,12 @@ of_arrays test v s names (f ∷ fs) =
     ids_append test one (arrays names fs)
     ∙ (ap (λ ids. ids_by test one ++ ids) (of_arrays test v s names fs) ∙ of_array test v s f.name (id_of names (length_name f.name)) f.id (shared_ids fs))
 
-global_ids : (test : Instr → Bool) → OfVariables test → OfShared test → (t : Threads) (names : List Found) → ids_by test (globals t names) ≡ shared_ids names
+global_ids : (test : Instr → Bool) → OfVariables test → OfShared test → (t : Axes) (names : List Found) → ids_by test (globals t names) ≡ shared_ids names
 global_ids test v s t names =
     none_by test (front t) (constants names ++ arrays names names) (of_front test v t)
     ∙ (none_by test (constants names) (arrays names names) (of_constant test v names) ∙ of_arrays test v s names names)
 
-pub shared_variables : (classes : ℕ → Bool) (t : Threads) (names : List Found) (bound : ℕ) (lines : List Line) → classes 4 ≡ true
+pub shared_variables : (classes : ℕ → Bool) (t : Axes) (names : List Found) (bound : ℕ) (lines : List Line) → classes 4 ≡ true
     → variables_of classes (module_of t names bound lines).code ≡ shared_ids names
 shared_variables classes t names bound lines h =
     ap (ids_by (is_variable_of classes)) (declared_of t names bound lines)
@@ -73,6 +73,6 @@ shared_variables classes t names bound lines h =
 workgroup_test : OfVariables is_workgroup
 workgroup_test i h = rw (h) refl
 
-pub workgroup : (t : Threads) (names : List Found) (bound : ℕ) (lines : List Line) → workgroup_ids (module_of t names bound lines).code ≡ shared_ids names
+pub workgroup : (t : Axes) (names : List Found) (bound : ℕ) (lines : List Line) → workgroup_ids (module_of t names bound lines).code ≡ shared_ids names
 workgroup t names bound lines =
     ap (ids_by is_workgroup) (declared_of t names bound lines) ∙ global_ids is_workgroup workgroup_test (λ pointer id. refl) t names

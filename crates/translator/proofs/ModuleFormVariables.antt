@@ -5,8 +5,9 @@ use Rattle.std.proofs.lemmas.Bool.{eq-eqb}
 use Rattle.spirv_words.specs.Text.{Instr}
 use Rattle.spirv_words.specs.Sorts.{Sort, Array, Pointer, sort_of, sort_of_instr, sort_of_type, sort_of_value, literal_of_instr, array_by}
 use Rattle.spirv_words.specs.Sorts as sort
-use Rattle.spirv_words.specs.Variables.{is_word_type, is_array_sort, meets, pointee_in, is_shared, are_shared, of_class, is_constant_instr, is_variable_well, has_variables}
-use Rattle.tpf_program.specs.Declarations.{Threads}
+use Rattle.spirv_words.specs.Operands.{is_constant_instr}
+use Rattle.spirv_words.specs.Variables.{is_word_type, is_array_sort, meets, pointee_in, is_shared, are_shared, of_class, is_variable_well, has_variables}
+use Rattle.word_base.specs.Settings.{Axes}
 use Rattle.translator.specs.declared.line.Line.{Line}
 use Rattle.translator.specs.declared.names.Name.{Name}
 use Rattle.translator.specs.declared.names.Name.TheVariants.{Constant, Scratch, Registers, Shared}
@@ -31,7 +32,7 @@ is_memory code words x array p a w =
     ap (λ s. meets (λ t. is_array_sort (is_word_type code) words (sort_of code t)) (pointee_in 4 s)) p
     ∙ (ap (is_array_sort (is_word_type code) words) a ∙ (ap (λ s. sort.is_words s && nat_eq words words) w ∙ eq-eqb words words refl))
 
-memory : (t : Threads) (names : List Found) (bound : ℕ) (lines : List Line) → IsComplete names bound lines → (slot words id : ℕ)
+memory : (t : Axes) (names : List Found) (bound : ℕ) (lines : List Line) → IsComplete names bound lines → (slot words id : ℕ)
     → Has names (Shared slot words) id → is_shared (module_of t names bound lines).code words id ≡ true
 memory t names bound lines h slot words id k =
     let code = (module_of t names bound lines).code in
@@ -71,7 +72,7 @@ well_locals code none (f ∷ fs) w =
     each_append (IsWell code) (local f.name none f.id) (flat_map (λ g. local g.name none g.id) fs) (w f.name f.id (inl (refl, refl)))
     (well_locals code none fs (λ n id h. w n id (inr h)))
 
-well : (t : Threads) (names : List Found) (bound : ℕ) (lines : List Line) → IsComplete names bound lines
+well : (t : Axes) (names : List Found) (bound : ℕ) (lines : List Line) → IsComplete names bound lines
     → list_all (is_variable_well (module_of t names bound lines).code) (module_of t names bound lines).code ≡ true
 well t names bound lines h = all_of (is_variable_well code) code (
     each_append P (globals t names) (opening ++ body names lines)
@@ -92,7 +93,7 @@ well t names bound lines h = all_of (is_variable_well code) code (
       zero' : (n id : ℕ) → Has names (Scratch n) id → Has names (Constant 0) (id_of names (Constant 0))
       zero' n id k = wanted_constant t names bound lines h (Scratch n) 0 id k refl
 
-pub variables : (t : Threads) (names : List Found) (bound : ℕ) (lines : List Line) → IsComplete names bound lines
+pub variables : (t : Axes) (names : List Found) (bound : ℕ) (lines : List Line) → IsComplete names bound lines
     → IsTrue (has_variables (wanted_of_names names) (module_of t names bound lines).code)
 variables t names bound lines h =
     let code = (module_of t names bound lines).code in

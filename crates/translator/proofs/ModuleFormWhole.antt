@@ -1,8 +1,7 @@
 -- The module of names and lines has the form.
 use Rattle.std.proofs.Common.{ℕ, List}
-use Rattle.spirv_words.specs.Sections.{sized}
+use Rattle.word_base.specs.Settings.{axes, Axes}
 use Rattle.spirv_words.specs.Form.{Form}
-use Rattle.tpf_program.specs.Declarations.{Threads}
 use Rattle.translator.specs.declared.line.Line.{Line}
 use Rattle.translator.specs.declared.names.Found.{Found}
 use Rattle.translator.specs.Finished.{IsComplete, wanted_of_names}
@@ -15,8 +14,8 @@ use Rattle.translator.proofs.ModuleFormBlocks.{header, blocks, merges, branches,
 use Rattle.translator.proofs.ModuleFormSections.{sections, interface}
 use Rattle.translator.proofs.ModuleFormVariables.{variables}
 
-pub form : (t : Threads) (names : List Found) (bound : ℕ) (lines : List Line) → IsComplete names bound lines
-    → Form 0x00010300 (sized t.x t.y t.z) (wanted_of_names names) (module_of t names bound lines)
+pub form : (t : Axes) (names : List Found) (bound : ℕ) (lines : List Line) → IsComplete names bound lines
+    → Form 0x00010300 (axes t.x t.y t.z) (wanted_of_names names) (module_of t names bound lines)
 form t names bound lines h = record {
   header = header t names bound lines;
   sections = sections t names bound lines;

@@ -2,7 +2,7 @@
 use Rattle.std.proofs.Common.{◌≡◌, ℕ, ◌-◌, inl, inr, List, [], ◌∷◌, Some, refl}
 use Rattle.spirv_words.specs.Text.{Instr, instr}
 use Rattle.spirv_words.specs.Ids.{definition, declared}
-use Rattle.tpf_program.specs.Declarations.{Threads}
+use Rattle.word_base.specs.Settings.{Axes}
 use Rattle.translator.specs.declared.line.Line.{Line}
 use Rattle.translator.specs.declared.line.Line.TheVariants.{Load, Sum, Point, PointShared, Store, StoreShared}
 use Rattle.translator.specs.declared.names.Name.{Name}
@@ -45,7 +45,7 @@ named (f ∷ fs) id kind (inl e) = (f.name, inl (refl, e.0), e.1)
 named (f ∷ fs) id kind (inr h) = let x = named fs id kind h in (x.0, inr x.1, x.2)
 
 -- all of it is found
-chain_found : (t : Threads) (names : List Found) (bound : ℕ) (lines : List Line) → IsComplete names bound lines → (l : Line) → Member lines l
+chain_found : (t : Axes) (names : List Found) (bound : ℕ) (lines : List Line) → IsComplete names bound lines → (l : Line) → Member lines l
     → IsFound (module_of t names bound lines).code l
 chain_found t names bound lines h (Load result pointer) m = tt
 chain_found t names bound lines h (Sum result a b) m = tt
@@ -59,7 +59,7 @@ all_found : (code : List Instr) (ls : List Line) → ((l : Line) → Member ls l
 all_found code [] f = tt
 all_found code (l ∷ ls) f = (f l (inl refl), all_found code ls (λ k m. f k (inr m)))
 
-pub finds : (t : Threads) (names : List Found) (bound : ℕ) (lines : List Line) → IsComplete names bound lines → Finds names lines (module_of t names bound lines).code
+pub finds : (t : Axes) (names : List Found) (bound : ℕ) (lines : List Line) → IsComplete names bound lines → Finds names lines (module_of t names bound lines).code
 finds t names bound lines h = record {
   constant = constant_defined t names bound lines h;
   null = λ words id k. (registers_defined t names bound lines h words id k).2.0;

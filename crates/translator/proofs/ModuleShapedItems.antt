@@ -6,7 +6,8 @@ use Rattle.word_base.specs.declared.event.Room.TheVariants as room
 use Rattle.spirv_words.specs.Operations.{Op, op_of}
 use Rattle.spirv_words.specs.Text.{Instr, Module}
 use Rattle.spirv_words.specs.Globals.{Places}
-use Rattle.tpf_program.specs.Declarations.{Threads}
+use Rattle.spirv_words.specs.Sorts.{Pointer, sort_of}
+use Rattle.word_base.specs.Settings.{Axes}
 use Rattle.translator.specs.declared.line.Line.{Line}
 use Rattle.translator.specs.declared.line.Line.TheVariants.{Load, Sum, Point, PointShared, Store, StoreShared}
 use Rattle.translator.specs.declared.names.Found.{Found}
@@ -15,12 +16,13 @@ use Rattle.translator.specs.Lines.{Kind, Typed, In, typed_names, typed_result, T
 use Rattle.translator.specs.Parts.{globals, opening, locals, body, closing, module_of}
 use Rattle.translator.specs.Shape.{Item, Stores}
 use Rattle.translator.specs.ModuleShape.{merge_by, merges_of, op_at, items_of_op, items_from, module_shape}
+use Rattle.translator.proofs.FormSorts.{base}
 use Rattle.translator.proofs.ModuleFormEach.{Each, Throughout, each_global, each_locals, throughout}
 use Rattle.translator.proofs.ModuleFormShared.{workgroup}
 use Rattle.translator.proofs.ModuleStartNames.{above}
 use Rattle.translator.proofs.ModuleStartPlace.{behind}
 use Rattle.translator.proofs.ModuleShapedFinds.{IsFound, AreFound, finds}
-use Rattle.translator.proofs.ModuleShapedRooms.{Stood, AreStood, of_chain, stood_names}
+use Rattle.translator.proofs.ModuleShapedRooms.{Stood, AreStood, local, of_chain, stood_names}
 
 -- no instruction merges
 abbrev MergesNothing : Instr → Type 0
@@ -48,7 +50,7 @@ none_made : (m : Module) (places : Places) (code rest : List Instr) → Each (Is
 none_made m places [] rest h = refl
 none_made m places (i ∷ is) rest h = ap (λ l. l ++ items_from m places (is ++ rest)) h.0 ∙ none_made m places is rest h.1
 
-quiet_globals : (m : Module) (places : Places) (t : Threads) (names : List Found) → Each (IsQuiet m places) (globals t names)
+quiet_globals : (m : Module) (places : Places) (t : Axes) (names : List Found) → Each (IsQuiet m places) (globals t names)
 quiet_globals m places t names =
     each_global (IsQuiet m places)
     (record { constant = λ id w. refl; array = λ id length. refl; pointer = λ id array. refl; shared_pointer = λ id array. refl; null = λ array id. refl; shared = λ pointer id. refl })
@@ -61,21 +63,24 @@ quiet_locals : (m : Module) (places : Places) (names : List Found) → Each (IsQ
 quiet_locals m places names = each_locals (IsQuiet m places) (λ pointer id value. refl) names names
 
 -- Lines. What a line defines has the room of its kind.
-stood_result : (m : Module) (places : Places) (n : ℕ) (known : List Typed) (l : Line) → length m.code ≡ suc n → AreStood m places known → Takes known l → IsFound m.code l
+stood_result : (m : Module) (places : Places) (n : ℕ) (known : List Typed) (l : Line) → sort_of m.code 6 ≡ Pointer 7 5 → length m.code ≡ suc n → AreStood m places known → Takes known l → IsFound m.code l
     → (id : ℕ) (kind : Kind) → In (typed_result l) id kind → Stood m places kind id
-stood_result m places n known (Load result pointer) long s k d id kind (inl e) = subst (λ x. Stood m places x id) e.1 tt
-stood_result m places n known (Load result pointer) long s k d id kind (inr h) = absurd h
-stood_result m places n known (Sum result a b) long s k d id kind (inl e) = subst (λ x. Stood m places x id) e.1 tt
-stood_result m places n known (Sum result a b) long s k d id kind (inr h) = absurd h
-stood_result m places n known (Point result array index) long s k d id kind (inl e) =
-    subst (λ x. Stood m places x id) e.1 (subst (λ x. Stood m places APlace x) e.0 (of_chain m places n 6 result array index _ long d (s array AnArray k.0)))
-stood_result m places n known (Point result array index) long s k d id kind (inr h) = absurd h
-stood_result m places n known (PointShared slot result array index) long s k d id kind (inl e) =
+stood_result m places n known (Load result pointer) p long s k d id kind (inl e) = subst (λ x. Stood m places x id) e.1 tt
+stood_result m places n known (Load result pointer) p long s k d id kind (inr h) = absurd h
+stood_result m places n known (Sum result a b) p long s k d id kind (inl e) = subst (λ x. Stood m places x id) e.1 tt
+stood_result m places n known (Sum result a b) p long s k d id kind (inr h) = absurd h
+stood_result m places n known (Point result array index) p long s k d id kind (inl e) =
+    subst (λ x. Stood m places x id) e.1 (subst (λ x. Stood m places APlace x) e.0 (record {
+      shown = local m result _ p d refl;
+      room' = of_chain m places n 6 result array index _ long d (s array AnArray k.0);
+    }))
+stood_result m places n known (Point result array index) p long s k d id kind (inr h) = absurd h
+stood_result m places n known (PointShared slot result array index) p long s k d id kind (inl e) =
     subst (λ x. Stood m places x id) e.1
     (subst (λ x. Stood m places (ASharedPlace slot) x) e.0 (of_chain m places n 7 result array index _ long d (s array (ASharedArray slot) k.0)))
-stood_result m places n known (PointShared slot result array index) long s k d id kind (inr h) = absurd h
-stood_result m places n known (Store pointer value) long s k d id kind h = absurd h
-stood_result m places n known (StoreShared slot pointer value) long s k d id kind h = absurd h
+stood_result m places n known (PointShared slot result array index) p long s k d id kind (inr h) = absurd h
+stood_result m places n known (Store pointer value) p long s k d id kind h = absurd h
+stood_result m places n known (StoreShared slot pointer value) p long s k d id kind h = absurd h
 
 in_either : (a b : List Typed) (id : ℕ) (kind : Kind) → In (a ++ b) id kind → In a id kind ⊎ In b id kind
 in_either [] b id kind h = inr h
@@ -97,31 +102,32 @@ stores_to slots = map (λ slot. Stores (room.Shared slot)) slots
 made_by_line : (m : Module) (places : Places) (known : List Typed) (l : Line) (ls : List Line) (rest : List Instr) → AreStood m places known → Takes known l
     → items_from m places (code_of ls ++ rest) ≡ stores_to (slots_of ls) ++ items_from m places rest
     → items_from m places (code_of (l ∷ ls) ++ rest) ≡ stores_to (slots_of (l ∷ ls)) ++ items_from m places rest
-made_by_line m places known (Load result pointer) ls rest s k e = rw (s pointer APlace k) e
+made_by_line m places known (Load result pointer) ls rest s k e = rw ((s pointer APlace k).room', (s pointer APlace k).shown) e
 made_by_line m places known (Sum result a b) ls rest s k e = e
 made_by_line m places known (Point result array index) ls rest s k e = e
 made_by_line m places known (PointShared slot result array index) ls rest s k e = e
-made_by_line m places known (Store pointer value) ls rest s k e = rw (s pointer APlace k.0) e
+made_by_line m places known (Store pointer value) ls rest s k e = rw ((s pointer APlace k.0).room', (s pointer APlace k.0).shown) e
 made_by_line m places known (StoreShared slot pointer value) ls rest s k e =
     rw (s pointer (ASharedPlace slot) k.0) (ap (λ l. Stores (room.Shared slot) ∷ l) e)
 
-made_by_lines : (m : Module) (places : Places) (n : ℕ) (known : List Typed) (ls : List Line) (rest : List Instr) → length m.code ≡ suc n → AreStood m places known
+made_by_lines : (m : Module) (places : Places) (n : ℕ) (known : List Typed) (ls : List Line) (rest : List Instr) → sort_of m.code 6 ≡ Pointer 7 5 → length m.code ≡ suc n → AreStood m places known
     → AreTyped known ls → AreFound m.code ls → items_from m places (code_of ls ++ rest) ≡ stores_to (slots_of ls) ++ items_from m places rest
-made_by_lines m places n known [] rest long s k d = refl
-made_by_lines m places n known (l ∷ ls) rest long s k d =
+made_by_lines m places n known [] rest p long s k d = refl
+made_by_lines m places n known (l ∷ ls) rest p long s k d =
     made_by_line m places known l ls rest s k.0
-    (made_by_lines m places n (typed_result l ++ known) ls rest long
-    (stood_both m places (typed_result l) known (stood_result m places n known l long s k.0 d.0) s) k.1 d.1)
+    (made_by_lines m places n (typed_result l ++ known) ls rest p long
+    (stood_both m places (typed_result l) known (stood_result m places n known l p long s k.0 d.0) s) k.1 d.1)
 
-pub shape : (t : Threads) (names : List Found) (bound : ℕ) (lines : List Line) → IsComplete names bound lines
+pub shape : (t : Axes) (names : List Found) (bound : ℕ) (lines : List Line) → IsComplete names bound lines
     → (places : Places) → places.shared ≡ shared_slots names
     → module_shape (module_of t names bound lines) places ≡ map (λ slot. Stores (room.Shared slot)) (slots_of lines)
 shape t names bound lines h places s =
     let m = module_of t names bound lines in
     let d = finds t names bound lines h in
+    let p = (base t names bound lines).place in
     none_made m places (globals t names) (opening ++ body names lines) (quiet_globals m places t names)
     ∙ (none_made m places opening (body names lines) (quiet_opening m places (none_merged m.code (throughout MergesNothing merges_nothing t names bound lines)))
     ∙ (none_made m places (locals names names) (code_of lines ++ closing) (quiet_locals m places names)
-    ∙ (made_by_lines m places (length (behind t names lines)) (typed_names names) lines closing refl
-    (stood_names names lines m places (above 8 bound names h.rising) s (workgroup t names bound lines) d) h.typed d.chains
+    ∙ (made_by_lines m places (length (behind t names lines)) (typed_names names) lines closing p refl
+    (stood_names names lines m places p (above 8 bound names h.rising) s (workgroup t names bound lines) d) h.typed d.chains
     ∙ append-nil (stores_to (slots_of lines)))))

@@ -1,11 +1,10 @@
 -- From the start of a module of names and lines to its first line.
 use Rattle.std.proofs.Common.{◌≡◌, ℕ, suc, ◌-◌, List, [], ◌∷◌, ◌++◌, Bool, true, false, ◌||◌, refl, sym, ap, length, subst, arith}
 use Rattle.std.specs.Prelude.{◌≢◌, cond, option_map}
-use Rattle.word_base.specs.Settings.{Setting}
+use Rattle.word_base.specs.Settings.{Setting, Axes}
 use Rattle.spirv_words.specs.Values.{cells_of}
 use Rattle.spirv_words.specs.Globals.{Machine, Places, global, filled_slots, workgroup_ids, initial_memory}
 use Rattle.spirv_words.specs.Lane.{State, machine}
-use Rattle.tpf_program.specs.Declarations.{Threads}
 use Rattle.translator.specs.declared.line.Line.{Line}
 use Rattle.translator.specs.declared.names.Name.{Name}
 use Rattle.translator.specs.declared.names.Name.TheVariants.{Constant, Scratch, Registers, Shared}
@@ -59,7 +58,7 @@ aside names a n id h local e = by_test (is_found names (Constant 0)) refl where
 abbrev first_state : Machine → ℕ → State
 first_state m place = record { place = place; values = global m; memory = initial_memory m }
 
-pub begins : (t : Threads) (names : List Found) (bound : ℕ) (lines : List Line) → IsComplete names bound lines → (places : Places) (setting : Setting)
+pub begins : (t : Axes) (names : List Found) (bound : ℕ) (lines : List Line) → IsComplete names bound lines → (places : Places) (setting : Setting)
     → IsWhole names (machine (module_of t names bound lines) places setting)
     → filled_slots (machine (module_of t names bound lines) places setting) ≡ shared_slots names
     → Begins (module_of t names bound lines) places setting names lines

@@ -3,7 +3,7 @@ use Rattle.std.proofs.Common.{◌≡◌, ℕ, suc, ◌+◌, List, [], ◌∷◌,
 use Rattle.std.specs.Prelude.{option_and_then}
 use Rattle.spirv_words.specs.Text.{Instr, instr}
 use Rattle.spirv_words.specs.Lane.{is_function, first_from, behind_label, start_place}
-use Rattle.tpf_program.specs.Declarations.{Threads}
+use Rattle.word_base.specs.Settings.{Axes}
 use Rattle.translator.specs.declared.line.Line.{Line}
 use Rattle.translator.specs.declared.names.Found.{Found}
 use Rattle.translator.specs.Emission.{HasAt}
@@ -32,20 +32,20 @@ within a (i ∷ b) =
     let e : length (a ++ i ∷ []) ≡ length a + 1 = omega (arith, length-append a (i ∷ [])) in
     (seam a i b, subst (λ p. HasAt (a ++ i ∷ b) p b) e (subst (λ l. HasAt l (length (a ++ i ∷ [])) b) (append_assoc a (i ∷ []) b) (within (a ++ i ∷ []) b)))
 
-no_main : (t : Threads) (names : List Found) → Each (λ i. is_function 1 i ≡ false) (globals t names)
+no_main : (t : Axes) (names : List Found) → Each (λ i. is_function 1 i ≡ false) (globals t names)
 no_main t names =
     each_global (λ i. is_function 1 i ≡ false)
     (record { constant = λ id w. refl; array = λ id length. refl; pointer = λ id array. refl; shared_pointer = λ id array. refl; null = λ array id. refl; shared = λ pointer id. refl })
     t names (refl, (refl, (refl, (refl, (refl, (refl, (refl, (refl, (refl, tt)))))))))
 
 -- behind the label of its block
-abbrev pub place_of : Threads → List Found → ℕ
+abbrev pub place_of : Axes → List Found → ℕ
 place_of t names = length (globals t names) + 1 + 1
 
 abbrev begins_behind : List Instr → ℕ → Option ℕ
 begins_behind code place = behind_label (drop place code) place
 
-pub start_found : (t : Threads) (names : List Found) (bound : ℕ) (lines : List Line) → start_place (module_of t names bound lines).code ≡ Some (place_of t names)
+pub start_found : (t : Axes) (names : List Found) (bound : ℕ) (lines : List Line) → start_place (module_of t names bound lines).code ≡ Some (place_of t names)
 start_found t names bound lines =
     let g = globals t names in
     let code = (module_of t names bound lines).code in
@@ -54,7 +54,7 @@ start_found t names bound lines =
     first_behind (is_function 1) g (instr 54 (2 ∷ 1 ∷ 0 ∷ 3 ∷ [])) (instr 248 (4 ∷ []) ∷ body names lines) 0 (no_main t names) refl ∙ ap Some p in
     ap (option_and_then (begins_behind code)) found ∙ ap (λ rest. behind_label rest (length g)) (drop_front g (opening ++ body names lines))
 
-pub body_here : (t : Threads) (names : List Found) (bound : ℕ) (lines : List Line) → HasAt (module_of t names bound lines).code (place_of t names) (body names lines)
+pub body_here : (t : Axes) (names : List Found) (bound : ℕ) (lines : List Line) → HasAt (module_of t names bound lines).code (place_of t names) (body names lines)
 body_here t names bound lines =
     let g = globals t names in
     let long : length (g ++ opening) ≡ place_of t names = omega (arith, length-append g opening) in
@@ -62,7 +62,7 @@ body_here t names bound lines =
     (subst (λ code. HasAt code (length (g ++ opening)) (body names lines)) (append_assoc g opening (body names lines)) (within (g ++ opening) (body names lines)))
 
 -- all behind the module's first instruction
-abbrev pub behind : Threads → List Found → List Line → List Instr
+abbrev pub behind : Axes → List Found → List Line → List Instr
 behind t names lines =
     instr 14 (0 ∷ 1 ∷ []) ∷ instr 15 (5 ∷ 1 ∷ 0x6E69616D ∷ 0 ∷ []) ∷ instr 16 (1 ∷ 17 ∷ t.x ∷ t.y ∷ t.z ∷ []) ∷ instr 19 (2 ∷ []) ∷
     instr 33 (3 ∷ 2 ∷ []) ∷ instr 21 (5 ∷ 32 ∷ 0 ∷ []) ∷ instr 32 (6 ∷ 7 ∷ 5 ∷ []) ∷ instr 32 (7 ∷ 4 ∷ 5 ∷ []) ∷

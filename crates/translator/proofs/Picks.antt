@@ -1,8 +1,10 @@
 -- Runs over lists of picks that are joined, runs over picks of waiting lanes, and runs of lanes that end at once.
+use Rattle.tpf_decode.specs.Profiles.{Base}
 use Rattle.std.proofs.Common.{◌≡◌, ℕ, Bool, true, false, List, [], ◌∷◌, ◌++◌, inl, inr, refl, subst}
 use Rattle.std.specs.Prelude.{IsTrue}
 use Rattle.word_base.specs.Lanes.{Turn, Ends}
 use Rattle.tpf_program.specs.declared.instruction.Instruction.{Instruction}
+use Rattle.tpf_program.specs.Declarations.{threads_in}
 use Rattle.tpf_program.specs.Program.{Shader}
 use Rattle.tpf_program.specs.StraightLine.{returns}
 use Rattle.spirv_words.specs.Smallest.{smallest}
@@ -54,11 +56,11 @@ at_end m left right a b e f (lane ∷ picks) c value h =
     (b, h.1, k.1, at_end m left right a b e f picks h.1 value (subst (λ x. HasValue m left x h.1 picks value) k.0 h.3))
 
 pub same_runs : (x y z : ℕ) (p : Shader) (bindings : List Binding) (i : Instruction) → p.instructions ≡ i ∷ [] → IsTrue (returns i)
-    → SameRuns p bindings (smallest 0x00010300 x y z)
+    → SameRuns Base p bindings (smallest 0x00010300 x y z)
 same_runs x y z p bindings i h r = record {
   same = λ d picks value is_dispatch are_lanes. (
-    at_end _ _ _ _ _ (λ l. left_ends p (setting_of p d l) i h r) (λ l. right_ends x y z p bindings (setting_of p d l)) picks _ value,
-    at_end _ _ _ _ _ (λ l. right_ends x y z p bindings (setting_of p d l)) (λ l. left_ends p (setting_of p d l) i h r) picks _ value,
+    at_end _ _ _ _ _ (λ l. left_ends p (setting_of (threads_in p.declarations) d l) i h r) (λ l. right_ends x y z p bindings (setting_of (threads_in p.declarations) d l)) picks _ value,
+    at_end _ _ _ _ _ (λ l. right_ends x y z p bindings (setting_of (threads_in p.declarations) d l)) (λ l. left_ends p (setting_of (threads_in p.declarations) d l) i h r) picks _ value,
   );
   never_wrong = λ setting fits. never_wrong _ _ (right_ends x y z p bindings setting);
 }

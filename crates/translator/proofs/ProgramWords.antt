@@ -1,4 +1,5 @@
 -- A lane of a program of words makes events of words.
+use Rattle.tpf_decode.specs.Profiles.{Base}
 use Rattle.std.proofs.Common.{◌≡◌, ℕ, zero, suc, ◌+◌, ◌<◌, ◌^◌, Bool, true, false, List, [], ◌∷◌, ◌++◌, length, Option, Some, None, refl, subst, arith}
 use Rattle.std.specs.Prelude.{if◌then◌else◌, slice_get}
 use Rattle.word_base.specs.declared.event.Event.{Event}
@@ -7,12 +8,13 @@ use Rattle.word_base.specs.Registers.{Registers}
 use Rattle.word_base.specs.Settings.{Setting, HoldsWords}
 use Rattle.word_base.specs.Words.{AreWords}
 use Rattle.tpf_program.specs.declared.instruction.Instruction.{Instruction}
-use Rattle.tpf_program.specs.Bytecode.{State, start, plan, goes_to, goes_behind, holds, onward, turn_of, turn_at, step}
-use Rattle.tpf_program.specs.Ends.{else_of, innermost, close_around, is_loop, is_loop_or_switch}
+use Rattle.tpf_program.specs.Bytecode.{State, start, plan_by, result_by, goes_to, goes_behind, holds, onward, turn_of, turn_by, turn_at, step}
+use Rattle.tpf_program.specs.Ends.{else_of, around, close_around, is_loop, is_loop_or_switch}
 use Rattle.tpf_program.specs.Holding.{HoldWords, AreOfWords, IsProgramOfWords, IsEventOfWords}
-use Rattle.tpf_program.specs.Opcodes as meaning
-use Rattle.tpf_program.specs.Opcodes.{Meaning, meaning_of}
-use Rattle.tpf_program.specs.Plans.{parts, answered}
+use Rattle.tpf_decode.specs.Opcodes.{meaning_of}
+use Rattle.tpf_decode.specs.declared.meaning.Meaning.{Meaning}
+use Rattle.tpf_decode.specs.declared.meaning.Meaning.TheVariants as meaning
+use Rattle.tpf_program.specs.Plans.{parts, made, answered}
 use Rattle.tpf_program.specs.Program.{Shader}
 use Rattle.tpf_program.specs.Results.{outcome}
 use Rattle.tpf_program.specs.Values.{Context, context}
@@ -51,17 +53,17 @@ behind registers None h = tt
 behind registers (Some place) h = to_place registers (place + 1) h
 
 onward_good : (k : Context) (q : ℕ) (m : Meaning) (i : Instruction) (answers : List ℕ) → HoldWords k.registers
-    → HoldWords (outcome k m i (answered (parts k m i) answers)) → IsGoodTurn (onward k q m i answers)
+    → HoldWords (outcome k m i (answered (parts k m i) answers)) → IsGoodTurn (onward Base k q m i answers)
 onward_good k q meaning.If i answers h r =
-    either (holds k i) (goes_to k.registers (q + 1)) (goes_behind k.registers (else_of k.program.instructions q)) (to_place k.registers (q + 1) h) (behind k.registers _ h)
+    either (holds k i) (goes_to k.registers (q + 1)) (goes_behind k.registers (else_of Base k.program.instructions q)) (to_place k.registers (q + 1) h) (behind k.registers _ h)
 onward_good k q meaning.Else i answers h r = behind k.registers _ h
 onward_good k q meaning.EndLoop i answers h r = behind k.registers _ h
 onward_good k q meaning.Continue i answers h r = behind k.registers _ h
 onward_good k q meaning.ContinueIf i answers h r =
-    either (holds k i) (goes_behind k.registers (innermost is_loop k.program.instructions q)) (goes_to k.registers (q + 1)) (behind k.registers _ h) (to_place k.registers (q + 1) h)
+    either (holds k i) (goes_behind k.registers (around Base is_loop k.program.instructions q)) (goes_to k.registers (q + 1)) (behind k.registers _ h) (to_place k.registers (q + 1) h)
 onward_good k q meaning.Break i answers h r = behind k.registers _ h
 onward_good k q meaning.BreakIf i answers h r =
-    either (holds k i) (goes_behind k.registers (close_around is_loop_or_switch k.program.instructions q)) (goes_to k.registers (q + 1)) (behind k.registers _ h) (to_place k.registers (q + 1) h)
+    either (holds k i) (goes_behind k.registers (close_around Base is_loop_or_switch k.program.instructions q)) (goes_to k.registers (q + 1)) (behind k.registers _ h) (to_place k.registers (q + 1) h)
 onward_good k q meaning.Switch i answers h r = behind k.registers _ h
 onward_good k q meaning.Return i answers h r = tt
 onward_good k q meaning.ReturnIf i answers h r = either (holds k i) Ends (goes_to k.registers (q + 1)) tt (to_place k.registers (q + 1) h)
@@ -73,8 +75,10 @@ onward_good k q (meaning.Pair op) i answers h r = to_place _ (q + 1) r
 onward_good k q meaning.Swaps i answers h r = to_place _ (q + 1) r
 onward_good k q meaning.LoadRaw i answers h r = to_place _ (q + 1) r
 onward_good k q meaning.LoadStructured i answers h r = to_place _ (q + 1) r
+onward_good k q meaning.LoadTyped i answers h r = to_place _ (q + 1) r
 onward_good k q meaning.StoreRaw i answers h r = to_place _ (q + 1) r
 onward_good k q meaning.StoreStructured i answers h r = to_place _ (q + 1) r
+onward_good k q meaning.StoreTyped i answers h r = to_place _ (q + 1) r
 onward_good k q meaning.Measures i answers h r = to_place _ (q + 1) r
 onward_good k q (meaning.Acts kind) i answers h r = to_place _ (q + 1) r
 onward_good k q meaning.Compares i answers h r = to_place _ (q + 1) r
@@ -96,25 +100,31 @@ turn_good s (Some e) way h k w = (k e refl, λ a l. record { registers = h.regis
 
 module _ (leaves : LeavesWords) (makes : MakesWords) (p : Shader) (setting : Setting) (words : IsProgramOfWords p)
     (instructions : (n : ℕ) (i : Instruction) → slice_get p.instructions n ≡ Some i → AreOfWords i) (given : HoldsWords setting) where
-  at_good : (s : State) (o : Option Instruction) → IsGood s → ((i : Instruction) → o ≡ Some i → AreOfWords i) → IsGoodTurn (turn_at p setting s o)
+  turn_good_by : (s : State) (i : Instruction) (o : Option Meaning) → IsGood s
+      → ((n : ℕ) (e : Event) → slice_get (plan_by (context p setting s.registers) o i) n ≡ Some e → IsEventOfWords e)
+      → HoldWords (result_by (context p setting s.registers) o i s.answers) → IsGoodTurn (turn_by Base (context p setting s.registers) s o i)
+  turn_good_by s i None h m l = tt
+  turn_good_by s i (Some meaning) h m l =
+      turn_good s (slice_get (made (parts (context p setting s.registers) meaning i)) (length s.answers)) (onward Base (context p setting s.registers) s.place meaning i s.answers) h
+      (m (length s.answers)) (onward_good (context p setting s.registers) s.place meaning i s.answers h.registers l)
+
+  at_good : (s : State) (o : Option Instruction) → IsGood s → ((i : Instruction) → o ≡ Some i → AreOfWords i) → IsGoodTurn (turn_at Base p setting s o)
   at_good s None h k = tt
   at_good s (Some i) h k =
-      turn_good s (slice_get (plan p setting s.registers i) (length s.answers)) (onward (context p setting s.registers) s.place (meaning_of i.code) i s.answers) h
-      (makes p setting s.registers i words given h.registers (k i refl) (length s.answers))
-      (onward_good (context p setting s.registers) s.place (meaning_of i.code) i s.answers h.registers
-      (leaves p setting s.registers i s.answers words given h.registers (k i refl) h.answers))
+      turn_good_by s i (meaning_of Base i.code) h (makes Base p setting s.registers i words given h.registers (k i refl))
+      (leaves Base p setting s.registers i s.answers words given h.registers (k i refl) h.answers)
 
-  step_good : (s : State) → IsGood s → IsGoodTurn (step p setting s)
+  step_good : (s : State) → IsGood s → IsGoodTurn (step Base p setting s)
   step_good s h = at_good s (slice_get p.instructions s.place) h (instructions s.place)
 
-  walk_good : (n : ℕ) (s t : State) → IsGood s → Goes (step p setting) n s t → IsGood t
+  walk_good : (n : ℕ) (s t : State) → IsGood s → Goes (step Base p setting) n s t → IsGood t
   walk_good zero s t h g = subst IsGood g h
   walk_good (suc n) s t h g = walk_good n g.0 t (subst IsGoodTurn g.1 (step_good s h)) g.2
 
-  event_good : (s : State) (e : Event) (after : ℕ → State) → IsGood s → Meets (step p setting) s (Asks e after) → IsEventOfWords e × ((w : ℕ) → w < 2 ^ 32 → IsGood (after w))
+  event_good : (s : State) (e : Event) (after : ℕ → State) → IsGood s → Meets (step Base p setting) s (Asks e after) → IsEventOfWords e × ((w : ℕ) → w < 2 ^ 32 → IsGood (after w))
   event_good s e after h m = subst IsGoodTurn m.1.2 (step_good m.1.0 (walk_good m.0 s m.1.0 h m.1.1))
 
-  log_good : (events : List Event) (answers : List ℕ) (s t : State) → IsGood s → Makes (step p setting) s events answers t → IsGood t
+  log_good : (events : List Event) (answers : List ℕ) (s t : State) → IsGood s → Makes (step Base p setting) s events answers t → IsGood t
   log_good [] [] s t h k = subst IsGood k h
   log_good [] (a ∷ answers) s t h k = absurd k
   log_good (e ∷ events) [] s t h k = absurd k
@@ -122,7 +132,7 @@ module _ (leaves : LeavesWords) (makes : MakesWords) (p : Shader) (setting : Set
       let g = event_good s e k.0 h k.1 in
       log_good events answers (k.0 a) t (g.1 a k.2) k.3
 
-  pub makes_words : MakesOnly IsEventOfWords (step p setting) start
+  pub makes_words : MakesOnly IsEventOfWords (step Base p setting) start
   makes_words events answers t e after k m =
       let zeros : IsGood start = record { registers = record { temp = λ slot c. omega arith; indexable = λ slot index c. omega arith }; answers = no_words } in
       (event_good t e after (log_good events answers start t zeros k) m).0

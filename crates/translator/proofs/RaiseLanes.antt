@@ -1,4 +1,5 @@
 -- The lane of the statements of a program's instructions follows the program's lane, through the middle of plans.
+use Rattle.tpf_decode.specs.Profiles.{Base}
 use Rattle.std.proofs.Common.{◌≡◌, ℕ, zero, suc, ◌+◌, ◌-◌, ◌<◌, ◌^◌, ◌⊎◌, inl, inr, List, [], ◌∷◌, ◌++◌, length, Some, None, refl, sym, ap, ◌∙◌, subst, arith, append_assoc, append-nil, length-append}
 use Rattle.std.specs.Prelude.{slice_get, IsTrue}
 use Rattle.std.proofs.lemmas.Option.{slice_get_past}
@@ -10,10 +11,11 @@ use Rattle.word_base.specs.Settings.{Setting}
 use Rattle.word_base.specs.Words.{AreWords}
 use Rattle.tpf_program.specs.declared.instruction.Instruction.{Instruction}
 use Rattle.tpf_program.specs.Bytecode as bytecode
-use Rattle.tpf_program.specs.Bytecode.{State, plan, result, onward, turn_of, turn_at}
-use Rattle.tpf_program.specs.Extents.{FitsRooms}
+use Rattle.tpf_program.specs.Bytecode.{State, plan, plan_by, result, result_by, left_by, goes_to, onward, turn_of, turn_by, turn_at}
+use Rattle.translator.specs.Bindings.{HasRooms}
 use Rattle.tpf_program.specs.Holding.{HoldWords, IsProgramOfWords}
-use Rattle.tpf_program.specs.Opcodes.{meaning_of}
+use Rattle.tpf_decode.specs.Opcodes.{meaning_of, opcode_table}
+use Rattle.tpf_program.specs.Plans.{parts, made}
 use Rattle.tpf_program.specs.Program.{Shader}
 use Rattle.tpf_program.specs.StraightLine.{returns}
 use Rattle.tpf_program.specs.Values.{context}
@@ -33,7 +35,7 @@ seam : {X : Type 0} (before : List X) (x : X) (rest : List X) → slice_get (bef
 seam [] x rest = refl
 seam (y ∷ before) x rest = seam before x rest
 
-module _ (laws : LeavesWords) (p : Shader) (setting : Setting) (last : Instruction) (ends : IsTrue (returns last)) (fits : FitsRooms p setting) (words : IsProgramOfWords p)
+module _ (laws : LeavesWords) (p : Shader) (setting : Setting) (last : Instruction) (ends : IsTrue (returns last)) (fits : HasRooms p setting) (words : IsProgramOfWords p)
     (instructions : AreAllOfWords p) where
   abbrev right : Stand → Turn Stand
   right t = step (size_of p) setting t
@@ -52,9 +54,9 @@ module _ (laws : LeavesWords) (p : Shader) (setting : Setting) (last : Instructi
     answered : AreWords s.answers
     done : List Event
     left : List Event
-    split : plan p setting s.registers i ≡ done ++ left
+    split : plan Base p setting s.registers i ≡ done ++ left
     counted : length s.answers ≡ length done
-    makes : Plans right t left (λ answers u. Left p (push_all xs) (result p setting s.registers i (s.answers ++ answers)) u)
+    makes : Plans right t left (λ answers u. Left p (push_all xs) (result Base p setting s.registers i (s.answers ++ answers)) u)
 
   -- At the last instruction nothing is left.
   record AtLast (s : State) (t : Stand) : Type 0 where
@@ -92,10 +94,10 @@ module _ (laws : LeavesWords) (p : Shader) (setting : Setting) (last : Instructi
         registers = hold;
         answered = λ k. omega arith;
         done = [];
-        left = plan p setting registers i;
+        left = plan Base p setting registers i;
         split = refl;
         counted = refl;
-        makes = subst (λ u. Plans right u (plan p setting registers i) (λ answers v. Left p (push_all xs) (result p setting registers i answers) v)) same
+        makes = subst (λ u. Plans right u (plan Base p setting registers i) (λ answers v. Left p (push_all xs) (result Base p setting registers i answers) v)) same
             (all.0 setting registers (push_all xs) t.words fits hold l.words);
       })
 
@@ -104,32 +106,34 @@ module _ (laws : LeavesWords) (p : Shader) (setting : Setting) (last : Instructi
 
   -- with one answer more
   answered_more : (s : State) (w : ℕ) (left : List Event) (i : Instruction) (k : List Statement) (u : Stand)
-      → Plans right u left (λ answers v. Left p k (result p setting s.registers i (s.answers ++ w ∷ answers)) v)
-      → Plans right u left (λ answers v. Left p k (result p setting s.registers i ((s.answers ++ w ∷ []) ++ answers)) v)
+      → Plans right u left (λ answers v. Left p k (result Base p setting s.registers i (s.answers ++ w ∷ answers)) v)
+      → Plans right u left (λ answers v. Left p k (result Base p setting s.registers i ((s.answers ++ w ∷ []) ++ answers)) v)
   answered_more s w left i k u m =
-      weaker right left u _ _ (λ answers v l. subst (λ a. Left p k (result p setting s.registers i a) v) (sym (append_assoc s.answers (w ∷ []) answers)) l) m
+      weaker right left u _ _ (λ answers v l. subst (λ a. Left p k (result Base p setting s.registers i a) v) (sym (append_assoc s.answers (w ∷ []) answers)) l) m
 
   at_place : (before rest : List Instruction) (i : Instruction) (q : ℕ) → p.instructions ≡ before ++ i ∷ rest → q ≡ length before → slice_get p.instructions q ≡ Some i
   at_place before rest i q h e = ap (λ c. slice_get c q) h ∙ (ap (slice_get (before ++ i ∷ rest)) e ∙ seam before i rest)
 
   in_plan : (s : State) (t : Stand) (x : Within s t) (left : List Event) → x.left ≡ left
-      → Owes s t (turn_of s (slice_get (x.done ++ x.left) (length x.done)) (onward (context p setting s.registers) s.place (meaning_of x.i.code) x.i s.answers))
+      → Owes s t (turn_of s (slice_get (x.done ++ x.left) (length x.done)) (onward Base (context p setting s.registers) s.place x.goes.meaning x.i s.answers))
   in_plan s t x [] e =
       let none : slice_get (x.done ++ x.left) (length x.done) ≡ None = slice_get_past (x.done ++ x.left) (length x.done) (omega (arith, length-append x.done x.left, ap length e)) in
-      let m = subst (λ l. Plans right t l (λ answers u. Left p (push_all x.xs) (result p setting s.registers x.i (s.answers ++ answers)) u)) e x.makes in
-      let registers = result p setting s.registers x.i s.answers in
-      let l : Left p (push_all x.xs) registers m.1 = subst (λ a. Left p (push_all x.xs) (result p setting s.registers x.i a) m.1) (append-nil s.answers) m.3 in
-      let hold = laws p setting s.registers x.i s.answers words fits.words x.registers (instructions s.place x.i (at_place x.before (x.is ++ last ∷ []) x.i s.place x.here x.place)) x.answered in
+      let m = subst (λ l. Plans right t l (λ answers u. Left p (push_all x.xs) (result Base p setting s.registers x.i (s.answers ++ answers)) u)) e x.makes in
+      let registers = result Base p setting s.registers x.i s.answers in
+      let l : Left p (push_all x.xs) registers m.1 = subst (λ a. Left p (push_all x.xs) (result Base p setting s.registers x.i a) m.1) (append-nil s.answers) m.3 in
+      let hold = laws Base p setting s.registers x.i s.answers words fits.words x.registers (instructions s.place x.i (at_place x.before (x.is ++ last ∷ []) x.i s.place x.here x.place)) x.answered in
       let n = length-append x.before (x.i ∷ []) in
       let next = between (x.before ++ x.i ∷ []) x.is x.xs (s.place + 1) registers m.1 (x.here ∙ sym (append_assoc x.before (x.i ∷ []) (x.is ++ last ∷ []))) (omega (arith, x.place, n)) x.others hold l in
       let lt : s.place < length p.instructions = omega (arith, ap length x.here, length-append x.before (x.i ∷ (x.is ++ last ∷ [])), x.place) in
-      let way = x.goes (context p setting s.registers) s.place s.answers in
-      subst (λ o. Owes s t (turn_of s o (onward (context p setting s.registers) s.place (meaning_of x.i.code) x.i s.answers))) (sym none)
+      let k = context p setting s.registers in
+      let left' : left_by k x.goes.meaning x.i s.answers ≡ registers = sym (ap (λ o. result_by k o x.i s.answers) x.goes.means) in
+      let way = x.goes.onward' k s.place s.answers ∙ ap (λ r. goes_to r (s.place + 1)) left' in
+      subst (λ o. Owes s t (turn_of s o (onward Base (context p setting s.registers) s.place x.goes.meaning x.i s.answers))) (sym none)
       (subst (λ w. Owes s t w) (sym way) (m.0, m.1, m.2, next, inr (omega (arith, lt))))
   in_plan s t x (v ∷ left) e =
       let some : slice_get (x.done ++ x.left) (length x.done) ≡ Some v = ap (λ l. slice_get (x.done ++ l) (length x.done)) e ∙ seam x.done v left in
-      let m = subst (λ l. Plans right t l (λ answers u. Left p (push_all x.xs) (result p setting s.registers x.i (s.answers ++ answers)) u)) e x.makes in
-      subst (λ o. Owes s t (turn_of s o (onward (context p setting s.registers) s.place (meaning_of x.i.code) x.i s.answers))) (sym some) (
+      let m = subst (λ l. Plans right t l (λ answers u. Left p (push_all x.xs) (result Base p setting s.registers x.i (s.answers ++ answers)) u)) e x.makes in
+      subst (λ o. Owes s t (turn_of s o (onward Base (context p setting s.registers) s.place x.goes.meaning x.i s.answers))) (sym some) (
         m.0,
         m.1,
         m.2,
@@ -155,30 +159,34 @@ module _ (laws : LeavesWords) (p : Shader) (setting : Setting) (last : Instructi
       )
 
   -- the last instruction ends the lane
-  ends_there : (s : State) → turn_at p setting s (Some last) ≡ Ends
+  ends_there : (s : State) → turn_at Base p setting s (Some last) ≡ Ends
+  unfolding meaning_of opcode_table
   ends_there s = let code = eqb-true last.code 62 ends in rw code refl
 
-  keeps : (s : State) (t : Stand) → Same s t → Owes s t (bytecode.step p setting s)
+  keeps : (s : State) (t : Stand) → Same s t → Owes s t (bytecode.step Base p setting s)
   keeps s t (inl x) =
       let at = at_place x.before (x.is ++ last ∷ []) x.i s.place x.here x.place in
-      let e : slice_get (plan p setting s.registers x.i) (length s.answers) ≡ slice_get (x.done ++ x.left) (length x.done) =
-      ap (λ l. slice_get l (length s.answers)) x.split ∙ ap (slice_get (x.done ++ x.left)) x.counted in
-      subst (λ o. Owes s t (turn_at p setting s o)) (sym at)
-      (subst (λ o. Owes s t (turn_of s o (onward (context p setting s.registers) s.place (meaning_of x.i.code) x.i s.answers))) (sym e) (in_plan s t x x.left refl))
+      let k = context p setting s.registers in
+      let planned : made (parts k x.goes.meaning x.i) ≡ x.done ++ x.left = sym (ap (λ o. plan_by k o x.i) x.goes.means) ∙ x.split in
+      let e : slice_get (made (parts k x.goes.meaning x.i)) (length s.answers) ≡ slice_get (x.done ++ x.left) (length x.done) =
+      ap (λ l. slice_get l (length s.answers)) planned ∙ ap (slice_get (x.done ++ x.left)) x.counted in
+      subst (λ o. Owes s t (turn_at Base p setting s o)) (sym at)
+      (subst (λ o. Owes s t (turn_by Base k s o x.i)) (sym x.goes.means)
+      (subst (λ o. Owes s t (turn_of s o (onward Base (context p setting s.registers) s.place x.goes.meaning x.i s.answers))) (sym e) (in_plan s t x x.left refl)))
   keeps s t (inr x) =
       let at = at_place x.before [] last s.place x.here x.place in
-      subst (λ o. Owes s t (turn_at p setting s o)) (sym at)
+      subst (λ o. Owes s t (turn_at Base p setting s o)) (sym at)
       (subst (λ w. Owes s t w) (sym (ends_there s)) (0, t, refl, ap (λ k. right (stand k t.words)) x.todo))
 
   pub same_by : (xs : List Statement) (is : List Instruction) → p.instructions ≡ is ++ last ∷ [] → AllDo p xs is
-      → SameLanes (bytecode.step p setting) right bytecode.start (stand (push_all xs) no_words)
+      → SameLanes (bytecode.step Base p setting) right bytecode.start (stand (push_all xs) no_words)
   same_by xs is h all =
-      same_lanes (bytecode.step p setting) right Same measure (length p.instructions + 1) keeps (λ a b r. omega arith) _ _
+      same_lanes (bytecode.step Base p setting) right Same measure (length p.instructions + 1) keeps (λ a b r. omega arith) _ _
       (between [] is xs 0 _ (stand (push_all xs) no_words) h refl all (record { temp = λ slot c. omega arith; indexable = λ slot index c. omega arith })
       (record { todo = refl; words = λ slot c hs hc. refl }))
 
 -- The program's lane and that of the statements are the same.
-pub program_lane : (p : Shader) (setting : Setting) (xs : List Statement) (is : List Instruction) (last : Instruction) → FitsRooms p setting
+pub program_lane : (p : Shader) (setting : Setting) (xs : List Statement) (is : List Instruction) (last : Instruction) → HasRooms p setting
     → p.instructions ≡ is ++ last ∷ [] → IsTrue (returns last) → AllDo p xs is → IsProgramOfWords p → AreAllOfWords p → LeavesWords
-    → SameLanes (bytecode.step p setting) (step (size_of p) setting) bytecode.start (stand (push_all xs) no_words)
+    → SameLanes (bytecode.step Base p setting) (step (size_of p) setting) bytecode.start (stand (push_all xs) no_words)
 program_lane p setting xs is last fits h ends all words instructions laws = same_by laws p setting last ends fits words instructions xs is h all

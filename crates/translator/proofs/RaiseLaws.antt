@@ -6,6 +6,7 @@ use Rattle.word_base.specs.Alu.{act}
 use Rattle.word_base.specs.Registers.{Registers}
 use Rattle.word_base.specs.Settings.{Setting, HoldsWords}
 use Rattle.word_base.specs.Words.{AreWords}
+use Rattle.tpf_decode.specs.Profiles.{Profile}
 use Rattle.tpf_program.specs.declared.instruction.Instruction.{Instruction}
 use Rattle.tpf_program.specs.Bytecode as bytecode
 use Rattle.tpf_program.specs.Holding.{AreOfWords, HoldWords, IsEventOfWords, IsProgramOfWords}
@@ -14,14 +15,14 @@ use Rattle.tpf_program.specs.Program.{Shader}
 -- an instruction leaves words
 abbrev pub LeavesWords : Type 0
 LeavesWords =
-    (p : Shader) (setting : Setting) (registers : Registers) (i : Instruction) (answers : List ℕ) → IsProgramOfWords p → HoldsWords setting → HoldWords registers
-    → AreOfWords i → AreWords answers → HoldWords (bytecode.result p setting registers i answers)
+    (profile : Profile) (p : Shader) (setting : Setting) (registers : Registers) (i : Instruction) (answers : List ℕ) → IsProgramOfWords p → HoldsWords setting → HoldWords registers
+    → AreOfWords i → AreWords answers → HoldWords (bytecode.result profile p setting registers i answers)
 
 -- it makes events of words
 abbrev pub MakesWords : Type 0
 MakesWords =
-    (p : Shader) (setting : Setting) (registers : Registers) (i : Instruction) → IsProgramOfWords p → HoldsWords setting → HoldWords registers → AreOfWords i
-    → (n : ℕ) (e : Event) → slice_get (bytecode.plan p setting registers i) n ≡ Some e → IsEventOfWords e
+    (profile : Profile) (p : Shader) (setting : Setting) (registers : Registers) (i : Instruction) → IsProgramOfWords p → HoldsWords setting → HoldWords registers → AreOfWords i
+    → (n : ℕ) (e : Event) → slice_get (bytecode.plan profile p setting registers i) n ≡ Some e → IsEventOfWords e
 
 -- an atomic leaves a word
 abbrev pub ActsOnWords : Type 0

@@ -1,4 +1,5 @@
 -- An instruction that does nothing: nop, and one that writes to the null operand.
+use Rattle.tpf_decode.specs.Profiles.{Base}
 use Rattle.std.proofs.Common.{◌≡◌, ℕ, ⊎_elim, List, [], ◌∷◌, ◌++◌, length, refl, sym, ap, ◌∙◌, subst, arith, length-append}
 use Rattle.std.specs.Prelude.{◌||◌, IsTrue}
 use Rattle.std.proofs.lemmas.Bool.{eqb-true}
@@ -10,7 +11,7 @@ use Rattle.tpf_decode.specs.declared.argument.Kind.TheVariants as kind
 use Rattle.tpf_program.specs.declared.declaration.Declared.{Declared}
 use Rattle.tpf_program.specs.declared.instruction.Instruction.{Instruction}
 use Rattle.tpf_program.specs.Bytecode.{plan, result}
-use Rattle.tpf_program.specs.Opcodes.{meaning_but_return}
+use Rattle.tpf_decode.specs.Opcodes.{meaning_of, opcode_table}
 use Rattle.tpf_program.specs.Program.{Shader}
 use Rattle.tpf_program.specs.Sizes.{temps_of}
 use Rattle.tpf_program.specs.Values.{Context, context}
@@ -43,12 +44,12 @@ null_of kind.FlatId h = absurd (cc)
 
 -- It makes no event, leaves the registers as they are and stores nothing.
 record IsIdle (p : Shader) (i : Instruction) : Type 0 where
-  events : (setting : Setting) (registers : Registers) → plan p setting registers i ≡ []
-  leaves : (setting : Setting) (registers : Registers) → result p setting registers i [] ≡ registers
+  events : (setting : Setting) (registers : Registers) → plan Base p setting registers i ≡ []
+  leaves : (setting : Setting) (registers : Registers) → result Base p setting registers i [] ≡ registers
   slots : slots_for i ≡ []
 
 nop_idle : (p : Shader) (i : Instruction) → IsTrue (is_nop i) → IsIdle p i
-unfolding meaning_but_return
+unfolding meaning_of opcode_table
 nop_idle p i h =
     let e = eqb-true i.code 58 h in
     record { events = λ setting registers. rw e refl; leaves = λ setting registers. rw e refl; slots = rw e refl }
@@ -83,7 +84,7 @@ idle p i h q = ⊎_elim
 
 idle_does : (p : Shader) (i : Instruction) → IsIdle p i → Does p Nothing i
 idle_does p i d setting registers k t fits words agrees =
-    subst (λ es. Plans (step (size_of p) setting) (stand k t) es (λ answers u. Left p k (result p setting registers i answers) u)) (sym (d.events setting registers))
+    subst (λ es. Plans (step (size_of p) setting) (stand k t) es (λ answers u. Left p k (result Base p setting registers i answers) u)) (sym (d.events setting registers))
     (0, stand k t, refl, subst (λ regs. Left p k regs (stand k t)) (sym (d.leaves setting registers)) (record { todo = refl; words = agrees }))
 
 pub quiet_raised : (a b : Tree) (p : Shader) (i : Instruction) (r : ℕ) → IsTrue (is_raised p.declarations i) → IsTrue (is_quiet i)

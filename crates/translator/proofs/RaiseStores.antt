@@ -1,4 +1,5 @@
 -- Stores to shared memory: the statements that are added, and the plan that they make.
+use Rattle.tpf_decode.specs.Profiles.{Base}
 use Rattle.std.proofs.Common.{◌≡◌, ℕ, ◌+◌, ◌/◌, ⊎_elim, false, List, [], ◌∷◌, ◌++◌, map, length, Some, refl, sym, ap, ◌∙◌, subst, arith}
 use Rattle.std.specs.Prelude.{nat_eq, nat_lt, not, ◌||◌, IsTrue}
 use Rattle.std.specs.List.{list_all}
@@ -12,9 +13,11 @@ use Rattle.tpf_decode.specs.declared.argument.Kind.{Kind}
 use Rattle.tpf_decode.specs.declared.argument.Kind.TheVariants as kind
 use Rattle.tpf_program.specs.declared.declaration.Declared.{Declared}
 use Rattle.tpf_program.specs.declared.instruction.Instruction.{Instruction}
-use Rattle.tpf_program.specs.Bytecode.{plan, result}
+use Rattle.tpf_program.specs.Bytecode.{plan, result, left_by, goes_to, onward}
 use Rattle.tpf_program.specs.Extents.{shared_extent}
-use Rattle.tpf_program.specs.Opcodes.{meaning_but_return}
+use Rattle.tpf_decode.specs.Opcodes.{meaning_of, opcode_table}
+use Rattle.tpf_decode.specs.declared.meaning.Meaning.{Meaning}
+use Rattle.tpf_decode.specs.declared.meaning.Meaning.TheVariants.{StoreRaw}
 use Rattle.tpf_program.specs.Plans.{made, store_part, stores}
 use Rattle.tpf_program.specs.Program.{Shader}
 use Rattle.tpf_program.specs.Sizes.{temps_of}
@@ -180,17 +183,17 @@ at_offset : (k : Context) (a : Argument) → a.kind ≡ kind.Immediate → a.neg
 at_offset k a e n = rw (e, n) refl
 
 plan_by : (p : Shader) (setting : Setting) (registers : Registers) (i : Instruction) → i.code ≡ 166
-    → plan p setting registers i ≡ made (stores (context p setting registers) i.o0 (raw_at (context p setting registers) i.o1) i.o2)
-unfolding meaning_but_return
+    → plan Base p setting registers i ≡ made (stores (context p setting registers) i.o0 (raw_at (context p setting registers) i.o1) i.o2)
+unfolding meaning_of opcode_table
 plan_by p setting registers i e = rw e refl
 
-result_by : (p : Shader) (setting : Setting) (registers : Registers) (i : Instruction) (answers : List ℕ) → i.code ≡ 166 → result p setting registers i answers ≡ registers
-unfolding meaning_but_return
+result_by : (p : Shader) (setting : Setting) (registers : Registers) (i : Instruction) (answers : List ℕ) → i.code ≡ 166 → result Base p setting registers i answers ≡ registers
+unfolding meaning_of opcode_table
 result_by p setting registers i answers e = rw e refl
 
 store_plan : (p : Shader) (setting : Setting) (registers : Registers) (i : Instruction) → IsStore p.declarations i
     → IsTrue (list_all (λ c. nat_lt (i.o1.x / 4 + c) (setting.extent (Shared i.o0.slot))) (masked i.o0.select))
-    → plan p setting registers i ≡ map (λ c. Store (Shared i.o0.slot) (i.o1.x / 4 + c) (value (context p setting registers) i.o2 c)) (masked i.o0.select)
+    → plan Base p setting registers i ≡ map (λ c. Store (Shared i.o0.slot) (i.o1.x / 4 + c) (value (context p setting registers) i.o2 c)) (masked i.o0.select)
 store_plan p setting registers i s within =
     let k = context p setting registers in
     plan_by p setting registers i s.code ∙ (ap (λ at. made (stores k i.o0 at i.o2)) (at_offset k i.o1 s.offset s.plain)
@@ -199,10 +202,10 @@ store_plan p setting registers i s within =
 store_does : (a b : Tree) (p : Shader) (i : Instruction) (r : ℕ) → IsStore p.declarations i → (s : Stores a b i (masked_from i.o0.select 0) r) → Does p s.statement i
 store_does a b p i r h s setting registers k t fits words agrees =
     let within = subst (λ n. IsTrue (list_all (λ c. nat_lt (i.o1.x / 4 + c) n) (masked i.o0.select))) (sym (fits.extents (Shared i.o0.slot))) h.within in
-    subst (λ es. Plans (step (size_of p) setting) (stand (push s.statement k) t) es (λ answers u. Left p k (result p setting registers i answers) u))
+    subst (λ es. Plans (step (size_of p) setting) (stand (push s.statement k) t) es (λ answers u. Left p k (result Base p setting registers i answers) u))
     (sym (store_plan p setting registers i h within))
     (weaker (step (size_of p) setting) _ _ (λ answers u. u ≡ stand k t) _
-    (λ answers u e. subst (λ v. Left p k (result p setting registers i answers) v) (sym e)
+    (λ answers u e. subst (λ v. Left p k (result Base p setting registers i answers) v) (sym e)
     (subst (λ regs. Left p k regs (stand k t)) (sym (result_by p setting registers i answers h.code)) (record { todo = refl; words = agrees })))
     (s.runs p setting registers k t h.from agrees within))
 
@@ -222,7 +225,12 @@ store_raised a b p i r h s =
       slots = s.slots ∙ sym (slots_by i f.code);
     }
 
--- behind a store comes the next instruction
+-- behind an instruction of a meaning that leads on comes the next one
+pub goes_by : (i : Instruction) (code : ℕ) (meaning : Meaning) → i.code ≡ code → meaning_of Base code ≡ Some meaning
+    → ((k : Context) (q : ℕ) (answers : List ℕ) → onward Base k q meaning i answers ≡ goes_to (left_by k meaning i answers) (q + 1)) → GoesOn i
+goes_by i code meaning e m f = record { meaning = meaning; means = ap (meaning_of Base) e ∙ m; onward' = f }
+
+-- and so behind a store
 pub store_goes_on : (declarations : List Declared) (i : Instruction) → IsTrue (is_store declarations i) → GoesOn i
-unfolding meaning_but_return
-store_goes_on declarations i h k q answers = let e = (stores_there declarations i h).code in rw e refl
+unfolding meaning_of opcode_table
+store_goes_on declarations i h = goes_by i 166 StoreRaw (stores_there declarations i h).code refl (λ k q answers. refl)

@@ -9,7 +9,7 @@ use Rattle.tpf_decode.specs.declared.argument.Kind.{Kind}
 use Rattle.tpf_decode.specs.declared.argument.Kind.TheVariants as kind
 use Rattle.tpf_program.specs.declared.declaration.Declared.{Declared}
 use Rattle.tpf_program.specs.declared.instruction.Instruction.{Instruction}
-use Rattle.tpf_program.specs.Opcodes.{meaning_but_return}
+use Rattle.tpf_decode.specs.Opcodes.{meaning_of, opcode_table}
 use Rattle.tpf_program.specs.Program.{Shader}
 use Rattle.tpf_program.specs.Sizes.{temps_of}
 use Rattle.tpf_program.specs.Values.{Context, context, of_four, selected, value}
@@ -188,9 +188,9 @@ register_value p setting registers t a c h e lt agrees =
     rw (n, kinds, less, within, same) refl
 
 pub move_word : (i : Instruction) (k : Context) (c : ℕ) → i.code ≡ 54 → word_of i k c ≡ value k i.o1 c
-unfolding meaning_but_return
+unfolding meaning_of opcode_table
 move_word i k c h = rw h refl
 
 pub sum_word : (i : Instruction) (k : Context) (c : ℕ) → i.code ≡ 30 → word_of i k c ≡ (value k i.o1 c + value k i.o2 c) % 2 ^ 32
-unfolding meaning_but_return
+unfolding meaning_of opcode_table
 sum_word i k c h = rw h refl

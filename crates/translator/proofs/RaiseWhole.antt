@@ -1,4 +1,5 @@
 -- The statement of an instruction does what the instruction does.
+use Rattle.tpf_decode.specs.Profiles.{Base}
 use Rattle.std.proofs.Common.{◌≡◌, ℕ, ◌+◌, ◌*◌, ◌<◌, ◌≤◌, ⊎_elim, List, [], ◌∷◌, ◌++◌, map, length, refl, sym, ap, ◌∙◌, subst, arith, length-append}
 use Rattle.std.specs.Prelude.{◌||◌, false, IsTrue, Some, slice_get}
 use Rattle.std.proofs.lemmas.Bool.{eqb-true, lt-ltb}
@@ -9,7 +10,10 @@ use Rattle.tpf_decode.specs.declared.argument.Argument.{Argument}
 use Rattle.tpf_program.specs.declared.declaration.Declared.{Declared}
 use Rattle.tpf_program.specs.declared.instruction.Instruction.{Instruction}
 use Rattle.tpf_program.specs.Bytecode.{plan, result}
-use Rattle.tpf_program.specs.Opcodes.{meaning_but_return}
+use Rattle.tpf_decode.specs.Opcodes.{meaning_of, opcode_table}
+use Rattle.word_base.specs.declared.arithmetic.Unary.TheVariants as one
+use Rattle.word_base.specs.declared.arithmetic.Binary.TheVariants as two
+use Rattle.tpf_decode.specs.declared.meaning.Meaning.TheVariants.{One, Two, Nop}
 use Rattle.tpf_program.specs.Program.{Shader}
 use Rattle.tpf_program.specs.Sizes.{temps_of}
 use Rattle.tpf_program.specs.Values.{Context, context}
@@ -24,7 +28,7 @@ use Rattle.translator.proofs.Walks.{goes_on}
 use Rattle.translator.proofs.TreeKept.{statement_kept}
 use Rattle.translator.proofs.RaiseNodes.{keeps_same, keeps_more, keeps_on, stands_last, statement_within}
 use Rattle.translator.proofs.RaiseStatements.{masked_few}
-use Rattle.translator.proofs.RaiseStores.{store_goes_on}
+use Rattle.translator.proofs.RaiseStores.{goes_by, store_goes_on}
 use Rattle.translator.proofs.RaiseValues.{IsBelow, register, either, move_or_sum, moves, sums, neither, written_register, written_to}
 
 -- the register that is written
@@ -43,16 +47,16 @@ into_register k a word r h =
     rw (kinds, less) refl
 
 -- no event is made, and the words are those of the components
-pub plan_of : (p : Shader) (setting : Setting) (registers : Registers) (i : Instruction) → IsTrue (is_arithmetic (temps_of p.declarations) i) → plan p setting registers i ≡ []
-unfolding meaning_but_return
+pub plan_of : (p : Shader) (setting : Setting) (registers : Registers) (i : Instruction) → IsTrue (is_arithmetic (temps_of p.declarations) i) → plan Base p setting registers i ≡ []
+unfolding meaning_of opcode_table
 plan_of p setting registers i h = ⊎_elim
     (λ m. let e = (moves (temps_of p.declarations) i m).code in rw e refl)
     (λ s. let e = (sums (temps_of p.declarations) i s).code in rw e refl)
     (move_or_sum (temps_of p.declarations) i h)
 
 pub result_of : (p : Shader) (setting : Setting) (registers : Registers) (i : Instruction) → IsTrue (is_arithmetic (temps_of p.declarations) i)
-    → result p setting registers i [] ≡ writes (context p setting registers) i.o0 (word_of i (context p setting registers)) registers
-unfolding meaning_but_return
+    → result Base p setting registers i [] ≡ writes (context p setting registers) i.o0 (word_of i (context p setting registers)) registers
+unfolding meaning_of opcode_table
 result_of p setting registers i h = ⊎_elim
     (λ m. let e = (moves (temps_of p.declarations) i m).code in rw e refl)
     (λ s. let e = (sums (temps_of p.declarations) i s).code in rw e refl)
@@ -65,7 +69,7 @@ does_by : (p : Shader) (x : Statement) (i : Instruction) → IsTrue (is_arithmet
     → Does p x i
 does_by p x i h f setting registers k t fits words agrees =
     let r = f setting registers k t agrees in
-    subst (λ es. Plans (step (size_of p) setting) (stand (push x k) t) es (λ answers u. Left p k (result p setting registers i answers) u))
+    subst (λ es. Plans (step (size_of p) setting) (stand (push x k) t) es (λ answers u. Left p k (result Base p setting registers i answers) u))
     (sym (plan_of p setting registers i h))
     (r.0, r.1, r.2, subst (λ regs. Left p k regs r.1) (sym (result_of p setting registers i h)) r.3)
 
@@ -142,16 +146,16 @@ at_one p n i P e h x other = let same : i ≡ x = cc in subst P same h
 
 -- behind a mov or an iadd comes the next instruction
 arithmetic_goes_on : (temps : ℕ) (i : Instruction) → IsTrue (is_arithmetic temps i) → GoesOn i
-unfolding meaning_but_return
-arithmetic_goes_on temps i h k q answers = ⊎_elim
-    (λ m. let e = (moves temps i m).code in rw e refl)
-    (λ s. let e = (sums temps i s).code in rw e refl)
+unfolding meaning_of opcode_table
+arithmetic_goes_on temps i h = ⊎_elim
+    (λ m. goes_by i 54 (One one.Mov) (moves temps i m).code refl (λ k q answers. refl))
+    (λ s. goes_by i 30 (Two two.Iadd) (sums temps i s).code refl (λ k q answers. refl))
     (move_or_sum temps i h)
 
 -- behind a nop too
 nop_goes_on : (i : Instruction) → IsTrue (is_nop i) → GoesOn i
-unfolding meaning_but_return
-nop_goes_on i h k q answers = let e = eqb-true i.code 58 h in rw e refl
+unfolding meaning_of opcode_table
+nop_goes_on i h = goes_by i 58 Nop (eqb-true i.code 58 h) refl (λ k q answers. refl)
 
 pub raised_goes_on : (declarations : List Declared) (i : Instruction) → IsTrue (is_raised declarations i) → GoesOn i
 raised_goes_on declarations i h = ⊎_elim

@@ -1,5 +1,5 @@
 -- The rooms of shared memory: as long as they are declared, and in the order of their slots.
-use Rattle.std.proofs.Common.{◌≡◌, ℕ, Bool, true, false, inl, inr, List, [], ◌∷◌, map, refl, ap, ◌∙◌, subst}
+use Rattle.std.proofs.Common.{◌≡◌, ℕ, Bool, inl, inr, List, [], ◌∷◌, map, refl, ap, subst}
 use Rattle.std.specs.Prelude.{filter, cond, nat_lt}
 use Rattle.translator.specs.declared.names.Name.{Name}
 use Rattle.translator.specs.declared.names.Name.TheVariants.{Constant, Scratch, Registers, Shared}
@@ -32,16 +32,6 @@ filter_same : (test other : ℕ → Bool) → ((x : ℕ) → test x ≡ other x)
 filter_same test other h [] = refl
 filter_same test other h (x ∷ xs) = by_test (test x) (other x) x _ _ (h x) (filter_same test other h xs)
 
-twice_by : (test : ℕ → Bool) (b : Bool) (x : ℕ) (xs : List ℕ) → test x ≡ b → filter test xs ≡ xs → filter test (cond b (x ∷ xs) xs) ≡ cond b (x ∷ xs) xs
-twice_by test true x xs e h = ap (λ b. cond b (x ∷ filter test xs) (filter test xs)) e ∙ ap (λ l. x ∷ l) h
-twice_by test false x xs e h = h
-
-filter_twice : (test : ℕ → Bool) (xs : List ℕ) → filter test (filter test xs) ≡ filter test xs
-filter_twice test [] = refl
-filter_twice test (x ∷ xs) = twice_by test (test x) x (filter test xs) refl (filter_twice test xs)
-
 pub filled : (extent declared : ℕ → ℕ) → ((slot : ℕ) → extent slot ≡ declared slot) → (xs : List ℕ)
-    → filter (λ slot. nat_lt 0 (extent slot)) (filter (λ slot. nat_lt 0 (declared slot)) xs) ≡ filter (λ slot. nat_lt 0 (declared slot)) xs
-filled extent declared h xs =
-    filter_same (λ slot. nat_lt 0 (extent slot)) (λ slot. nat_lt 0 (declared slot)) (λ x. ap (nat_lt 0) (h x)) (filter (λ slot. nat_lt 0 (declared slot)) xs)
-    ∙ filter_twice (λ slot. nat_lt 0 (declared slot)) xs
+    → filter (λ slot. nat_lt 0 (extent slot)) xs ≡ filter (λ slot. nat_lt 0 (declared slot)) xs
+filled extent declared h xs = filter_same (λ slot. nat_lt 0 (extent slot)) (λ slot. nat_lt 0 (declared slot)) (λ x. ap (nat_lt 0) (h x)) xs

@@ -1,4 +1,5 @@
 -- There is a dispatch of the program that adds in shared memory, and its run has a value.
+use Rattle.tpf_decode.specs.Profiles.{Base}
 use Rattle.std.proofs.Common.{◌≡◌, ℕ, zero, suc, ◌<◌, ◌≤◌, ◌^◌, Bool, true, false, List, [], ◌∷◌, length, Option, Some, None, refl, subst, arith}
 use Rattle.std.specs.Prelude.{nat_eq, if◌then◌else◌, ◌||◌, slice_get, slice_index, option_map}
 use Rattle.std.specs.Bool.{MatchBool}
@@ -6,18 +7,17 @@ use Rattle.word_base.specs.declared.event.Room.{Room}
 use Rattle.word_base.specs.declared.event.Room.TheVariants.{Resource, Uav, Counter, Shared}
 use Rattle.word_base.specs.Settings.{AreIds}
 use Rattle.word_base.specs.Words.{AreWords}
-use Rattle.tpf_program.specs.Bytecode as bytecode
 use Rattle.tpf_program.specs.Declarations.{threads_in}
 use Rattle.tpf_program.specs.Extents.{IsExtent}
-use Rattle.tpf_program.specs.Opcodes.{meaning_but_return}
+use Rattle.tpf_decode.specs.Opcodes.{meaning_of, opcode_table}
 use Rattle.translator.specs.Bindings.{Binding, Uav as uav, Bound, HoldsConstants, Fits}
-use Rattle.translator.specs.Dispatch.{IsDispatch, Shares, setting_of, ids_of, at_start, shared_machine}
-use Rattle.translator.specs.RunExamples.{summing, one_group, views, run_of, in_turns, stand}
+use Rattle.translator.specs.Dispatch.{IsDispatch, Shares, setting_of, ids_of}
+use Rattle.translator.specs.RunExamples.{summing, one_group, views, run_of, in_turns}
 use Rattle.translator.specs.SameRuns.{ProgramRuns}
 use Rattle.translator.specs.ShapeExamples.{u0_bound}
-use Rattle.translator.proofs.Computed.{has_value}
+use Rattle.translator.proofs.Computed.{run_of_program}
 
-view_extent : (b : Bool) → MatchBool (b || false) (length {A = ℕ} (if b then 0 ∷ 0 ∷ [] else []) < 2 ^ 30) (length {A = ℕ} (if b then 0 ∷ 0 ∷ [] else []) ≡ 0)
+pub view_extent : (b : Bool) → MatchBool (b || false) (length {A = ℕ} (if b then 0 ∷ 0 ∷ [] else []) < 2 ^ 30) (length {A = ℕ} (if b then 0 ∷ 0 ∷ [] else []) ≡ 0)
 view_extent true = omega arith
 view_extent false = refl
 
@@ -25,17 +25,17 @@ shared_extent : (b : Bool) → length {A = ℕ} (if b then 0 ∷ [] else []) ≡
 shared_extent true = refl
 shared_extent false = refl
 
-extent : (lane : ℕ) (room : Room) → IsExtent summing room ((setting_of summing one_group lane).extent room)
+extent : (lane : ℕ) (room : Room) → IsExtent (λ r. false) summing room ((setting_of (threads_in summing.declarations) one_group lane).extent room)
 extent lane (Resource slot) = refl
 extent lane (Uav slot) = view_extent (nat_eq 0 slot)
 extent lane (Counter slot) = refl
 extent lane (Shared slot) = shared_extent (nat_eq 0 slot)
 
-short : (b : Bool) (words : List ℕ) → length words ≤ 2 → length {A = ℕ} (if b then words else []) < 2 ^ 32
+pub short : (b : Bool) (words : List ℕ) → length words ≤ 2 → length {A = ℕ} (if b then words else []) < 2 ^ 32
 short true words h = omega arith
 short false words h = omega arith
 
-extent_word : (lane : ℕ) (room : Room) → (setting_of summing one_group lane).extent room < 2 ^ 32
+extent_word : (lane : ℕ) (room : Room) → (setting_of (threads_in summing.declarations) one_group lane).extent room < 2 ^ 32
 extent_word lane (Resource slot) = omega arith
 extent_word lane (Uav slot) = short (nat_eq 0 slot) (0 ∷ 0 ∷ []) (omega arith)
 extent_word lane (Counter slot) = omega arith
@@ -55,7 +55,7 @@ ids lane h = record {
   thread_z = omega arith;
 }
 
-no_words : AreWords []
+pub no_words : AreWords []
 no_words k = omega arith
 
 zeros : (k : ℕ) → slice_index (0 ∷ 0 ∷ []) k < 2 ^ 32
@@ -67,23 +67,23 @@ zero_word : (k : ℕ) → slice_index (0 ∷ []) k < 2 ^ 32
 zero_word zero = omega arith
 zero_word (suc k) = omega arith
 
-words_where : (b : Bool) (words : List ℕ) → AreWords words → AreWords (if b then words else [])
+pub words_where : (b : Bool) (words : List ℕ) → AreWords words → AreWords (if b then words else [])
 words_where true words h = h
 words_where false words h = no_words
 
-view_words : (room : Room) → AreWords (views room)
+pub view_words : (room : Room) → AreWords (views room)
 view_words (Resource slot) = no_words
 view_words (Uav slot) = words_where (nat_eq 0 slot) (0 ∷ 0 ∷ []) zeros
 view_words (Counter slot) = no_words
 view_words (Shared slot) = no_words
 
-is_u0 : (k : ℕ) (b : Binding) → slice_get u0_bound k ≡ Some b → HoldsConstants summing (setting_of summing one_group 0) b.register b.place
+is_u0 : (k : ℕ) (b : Binding) → slice_get u0_bound k ≡ Some b → HoldsConstants summing (setting_of (threads_in summing.declarations) one_group 0) b.register b.place
 is_u0 zero b h =
     let e : record { register = uav 0; place = Bound 0 0 } ≡ b = cc in
-    subst (λ c. HoldsConstants summing (setting_of summing one_group 0) c.register c.place) e tt
+    subst (λ c. HoldsConstants summing (setting_of (threads_in summing.declarations) one_group 0) c.register c.place) e tt
 is_u0 (suc k) b h = absurd (cc)
 
-fits : (lane : ℕ) → lane < 2 → Fits summing u0_bound (setting_of summing one_group lane)
+fits : (lane : ℕ) → lane < 2 → Fits summing u0_bound (setting_of (threads_in summing.declarations) one_group lane)
 fits lane h = record {
   rooms = record {
     words = record { ids = ids lane h; constants = λ slot. no_words; extent = extent_word lane };
@@ -93,7 +93,7 @@ fits lane h = record {
 }
 
 -- a group of two lanes, with two words in u0 and one in g0
-pub is_dispatch : IsDispatch summing u0_bound one_group
+pub is_dispatch : IsDispatch (threads_in summing.declarations) (Fits summing u0_bound) one_group
 is_dispatch = record {
   x = (omega arith, omega arith);
   y = (omega arith, omega arith);
@@ -108,11 +108,10 @@ found None h = absurd (cc)
 found (Some value) h = (value, refl)
 
 -- the run in turns has a value, in which the second lane has ended
-pub has_run : (value : Shares) × ProgramRuns summing one_group in_turns value
-unfolding meaning_but_return
+pub has_run : (value : Shares) × ProgramRuns Base summing one_group in_turns value
+unfolding meaning_of opcode_table
 has_run =
     let v = found (run_of in_turns) refl in (
       v.0,
-      has_value (shared_machine (threads_in summing.declarations)) 8 (λ l. bytecode.step summing (setting_of summing one_group l)) in_turns
-          (stand (λ l. bytecode.start) (at_start one_group)) v.0 v.1,
+      run_of_program summing one_group 8 in_turns v.0 v.1,
     )

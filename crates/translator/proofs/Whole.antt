@@ -1,16 +1,18 @@
 -- What a translation answers: the module means the program.
+use Rattle.tpf_decode.specs.Profiles.{Base}
+use Rattle.std.specs.List.{range_with_len}
 use Rattle.std.proofs.Common.{◌≡◌, ℕ, [], ◌++◌, map, IsTrue, sym, ap, ◌∙◌, subst}
 use Rattle.std.specs.List.{list_all}
 use Rattle.word_base.specs.declared.event.Room.TheVariants as room
 use Rattle.word_base.specs.Lanes.{SameLanes}
-use Rattle.word_base.specs.Settings.{Setting}
+use Rattle.word_base.specs.Settings.{Setting, Axes}
 use Rattle.tpf_program.specs.Bytecode as bytecode
-use Rattle.tpf_program.specs.Declarations.{Threads}
 use Rattle.tpf_program.specs.Extents.{shared_extent}
 use Rattle.tpf_program.specs.Holding.{IsProgramOfWords}
 use Rattle.tpf_program.specs.Program.{Shader}
 use Rattle.tpf_program.specs.StraightLine.{is_built_in}
 use Rattle.translator.specs.ModuleShape.{HasShape}
+use Rattle.translator.specs.Shape.{cases_in}
 use Rattle.translator.proofs.Items.{store_item, items_are, slots_last}
 use Rattle.translator.proofs.Rooms.{named_words, filled}
 use Rattle.spirv_words.specs.Globals.{filled_slots}
@@ -19,7 +21,7 @@ use Rattle.spirv_words.specs.Text.{Module}
 use Rattle.translator.specs.declared.emission.Emitter.{Emitter}
 use Rattle.translator.specs.declared.names.Name.TheVariants as name
 use Rattle.translator.specs.Bindings as bindings
-use Rattle.translator.specs.Bindings.{Binding, places_of, numbers_from, Fits}
+use Rattle.translator.specs.Bindings.{Binding, places_of, places_in, Fits}
 use Rattle.translator.specs.Emission.{LoweredIn}
 use Rattle.translator.specs.Finished.{shared_slots, shared_words}
 use Rattle.translator.specs.Found.{Has, shared_in}
@@ -61,7 +63,7 @@ module _ (p : Shader) (e : Emitter) (l : Lowered p e) where
 
   -- UNDER A SETTING that fits the program.
   module _ (setting : Setting) (fits : Fits p [] setting) where
-    abbrev m : Threads → Module
+    abbrev m : Axes → Module
     m t = module_of t e.names.items e.next e.lines.items
 
     extents : (slot : ℕ) → setting.extent (room.Shared slot) ≡ shared_extent slot p.declarations
@@ -72,24 +74,24 @@ module _ (p : Shader) (e : Emitter) (l : Lowered p e) where
         extents slot
         ∙ sym (named_words (λ s. shared_extent s p.declarations) e.names.items slot words id (words_are ∙ ap (map (λ s. shared_extent s p.declarations)) (sym slots_are)) h)
 
-    in_order : (t : Threads) → filled_slots (lane.machine (m t) (places_of p []) setting) ≡ shared_slots e.names.items
+    in_order : (t : Axes) → filled_slots (lane.machine (m t) (places_of []) setting) ≡ shared_slots e.names.items
     in_order t =
-        filled (λ s. setting.extent (room.Shared s)) (λ s. shared_extent s p.declarations) extents (numbers_from 0 64) ∙ sym slots_are
+        filled (λ s. setting.extent (room.Shared s)) (λ s. shared_extent s p.declarations) extents (range_with_len 0 64) ∙ sym slots_are
 
-    pub lanes : (t : Threads) → LeavesWords → IsProgramOfWords p → AreAllOfWords p
-        → SameLanes (bytecode.step p setting) (lane.lane (m t) (places_of p []) setting) bytecode.start (lane.start (m t) (places_of p []) setting)
+    pub lanes : (t : Axes) → LeavesWords → IsProgramOfWords p → AreAllOfWords p
+        → SameLanes (bytecode.step Base p setting) (lane.lane (m t) (places_of []) setting) bytecode.start (lane.start (m t) (places_of []) setting)
     lanes t leaves words immediates =
-        let is_whole = whole t e.names.items e.next e.lines.items whole_lines.complete (places_of p []) setting rooms in
+        let is_whole = whole t e.names.items e.next e.lines.items whole_lines.complete (places_of []) setting rooms in
         let lane_of = program_lane p setting l.covers.statements l.front l.last fits.rooms l.split l.ends l.covers.does words immediates leaves in
-        composed p setting (m t) (places_of p []) e.names.items e.lines.items l.covers.chain
-        (subst (λ todo. SameLanes (bytecode.step p setting) (step (size_of p) setting) bytecode.start (stand todo no_words)) (sym (l.covers.pushed [])) lane_of)
-        is_whole (begins t e.names.items e.next e.lines.items whole_lines.complete (places_of p []) setting is_whole (in_order t)) lowered_here
+        composed p setting (m t) (places_of []) e.names.items e.lines.items l.covers.chain
+        (subst (λ todo. SameLanes (bytecode.step Base p setting) (step (size_of p) setting) bytecode.start (stand todo no_words)) (sym (l.covers.pushed [])) lane_of)
+        is_whole (begins t e.names.items e.next e.lines.items whole_lines.complete (places_of []) setting is_whole (in_order t)) lowered_here
 
   -- THE SHAPE
-  pub shaped : (t : Threads) → IsTrue (list_all (is_built_in p.declarations) p.instructions) → HasShape p [] (module_of t e.names.items e.next e.lines.items)
+  pub shaped : (t : Axes) → IsTrue (list_all (is_built_in p.declarations) p.instructions) → HasShape Base p [] (module_of t e.names.items e.next e.lines.items)
   shaped t built = record {
     items =
-        shape t e.names.items e.next e.lines.items whole_lines.complete (places_of p []) (sym slots_are)
+        shape t e.names.items e.next e.lines.items whole_lines.complete (places_in p []) (sym slots_are)
         ∙ (ap (map store_item) (whole_lines.slots ∙ (l.covers.slots ∙ (sym (slots_last l.front l.last l.ends) ∙ ap all_slots (sym l.split))))
-        ∙ sym (items_are (places_of p []) p.declarations p.instructions built));
+        ∙ sym (items_are (places_of []) (cases_in Base p.instructions) p.declarations 0 p.instructions built));
   }

@@ -1,6 +1,6 @@
 -- What a binding map is: which registers of a program are bound, and where.
-use Rattle.std.specs.Prelude.{◌≡◌, ℕ, ◌+◌, ◌*◌, ◌<◌, ◌≤◌, nat_lt, zero, suc, List, [], ◌∷◌, filter, length, Option, Some, None, slice_get}
-use Rattle.std.specs.List.{filter_map}
+use Rattle.std.specs.Prelude.{◌≡◌, ℕ, ◌*◌, ◌<◌, ◌≤◌, nat_lt, false, List, [], filter, length, Option, Some, None, slice_get}
+use Rattle.std.specs.List.{filter_map, range_with_len}
 use Rattle.word_base.specs.declared.event.Room.TheVariants as room
 use Rattle.word_base.specs.Settings.{Setting}
 use Rattle.tpf_program.specs.Program.{Shader}
@@ -39,23 +39,22 @@ abbrev pub push_at : Register → Place → Option PushPlace
 push_at (Constant slot) (Push first count) = Some (record { first = first; count = count; slot = slot })
 push_at register place = None
 
--- the numbers from one on, that many
-abbrev pub numbers_from : ℕ → ℕ → List ℕ
-numbers_from n zero = []
-numbers_from n (suc k) = n ∷ numbers_from (n + 1) k
-
--- the slots of shared memory that have words, ascending
-abbrev pub shared_slots : Shader → List ℕ
-shared_slots p = filter (λ slot. nat_lt 0 (shared_extent slot p.declarations)) (numbers_from 0 64)
-
--- where a module's lane finds what a program's map binds
-abbrev pub places_of : Shader → List Binding → Places
-places_of p bindings = record {
+-- Where a module's lane finds what a map binds. Shared memory has the slots 0 to 63.
+abbrev pub places_of : List Binding → Places
+places_of bindings = record {
   rooms = filter_map (λ b. room_at b.register b.place) bindings;
   slots = filter_map (λ b. slot_at b.register b.place) bindings;
   pushes = filter_map (λ b. push_at b.register b.place) bindings;
-  shared = shared_slots p;
+  shared = range_with_len 0 64;
 }
+
+-- the slots of shared memory that a program gives words, ascending
+abbrev pub shared_slots : Shader → List ℕ
+shared_slots p = filter (λ slot. nat_lt 0 (shared_extent slot p.declarations)) (range_with_len 0 64)
+
+-- the same places with the slots of a program alone
+abbrev pub places_in : Shader → List Binding → Places
+places_in p bindings = record (places_of bindings) { shared = shared_slots p }
 
 -- The words that a dispatch gives for a declared constant buffer: four or more for each vector at a descriptor, exactly its push words
 -- in push constants.
@@ -69,7 +68,11 @@ pub record FitsConstants (p : Shader) (bindings : List Binding) (setting : Setti
   pub bound : (k : ℕ) (b : Binding) → slice_get bindings k ≡ Some b → HoldsConstants p setting b.register b.place
   pub undeclared : (slot : ℕ) → vectors_of slot p.declarations ≡ 0 → setting.constants slot ≡ []
 
+-- The rooms have lengths that fit the program. None is null.
+abbrev pub HasRooms : Shader → Setting → Type 0
+HasRooms p setting = FitsRooms (λ room. false) p setting
+
 -- a setting that a dispatch may give to a lane of the program
 pub record Fits (p : Shader) (bindings : List Binding) (setting : Setting) : Type 0 where
-  pub rooms : FitsRooms p setting
+  pub rooms : HasRooms p setting
   pub constants : FitsConstants p bindings setting

@@ -8,11 +8,9 @@ use Rattle.word_base.specs.declared.event.Ids.{Ids}
 use Rattle.word_base.specs.declared.event.Room.{Room}
 use Rattle.word_base.specs.declared.event.Room.TheVariants.{Resource, Uav, Counter, Shared}
 use Rattle.word_base.specs.Alu.{act}
-use Rattle.word_base.specs.Settings.{Setting}
+use Rattle.word_base.specs.Settings.{Axes, axes, Setting}
 use Rattle.word_base.specs.Words.{AreWords}
-use Rattle.tpf_program.specs.Declarations.{Threads, threads_in}
-use Rattle.tpf_program.specs.Program.{Shader}
-use Rattle.translator.specs.Bindings.{Binding, Fits, numbers_from}
+use Rattle.std.specs.List.{range_with_len}
 use Rattle.translator.specs.Runs.{Machine}
 
 -- Words of rooms: of the shared memory of each group by its number, and of all other rooms once.
@@ -20,11 +18,9 @@ pub record Memory : Type 0 where
   pub views : Room → List ℕ
   pub shared : ℕ → ℕ → List ℕ
 
--- The numbers of groups along x, y and z, the words of constant buffers by slot, and the memory at the start.
+-- The numbers of groups, the words of constant buffers by slot, and the memory at the start.
 pub record Dispatch : Type 0 where
-  pub x : ℕ
-  pub y : ℕ
-  pub z : ℕ
+  pub groups : Axes
   pub constants : ℕ → List ℕ
   pub memory : Memory
 
@@ -34,28 +30,23 @@ room_words m group (Shared slot) = m.shared group slot
 room_words m group room = m.views room
 
 -- LANES are numbered group by group. The group's number counts along x, then y, then z, and so does the lane's number in its group.
-abbrev pub group_size : Threads → ℕ
+abbrev pub group_size : Axes → ℕ
 group_size t = t.x * t.y * t.z
 
-abbrev pub lanes_of : Threads → Dispatch → ℕ
-lanes_of t d = d.x * d.y * d.z * group_size t
+abbrev pub lanes_of : Axes → Dispatch → ℕ
+lanes_of t d = d.groups.x * d.groups.y * d.groups.z * group_size t
 
-abbrev pub group_of_lane : Threads → ℕ → ℕ
+abbrev pub group_of_lane : Axes → ℕ → ℕ
 group_of_lane t lane = lane / group_size t
 
-abbrev pub flat_of : Threads → ℕ → ℕ
+abbrev pub flat_of : Axes → ℕ → ℕ
 flat_of t lane = lane % group_size t
 
--- the coordinates of a number that counts along x, then y, then z
-pub record Corner : Type 0 where
-  pub x : ℕ
-  pub y : ℕ
-  pub z : ℕ
+-- where a number stands that counts along x, then y, then z
+abbrev pub standing : ℕ → ℕ → ℕ → Axes
+standing x y n = axes (n % x) (n / x % y) (n / x / y)
 
-abbrev pub corner : ℕ → ℕ → ℕ → Corner
-corner x y n = record { x = n % x; y = n / x % y; z = n / x / y }
-
-abbrev pub ids_at : Threads → Corner → Corner → ℕ → Ids
+abbrev pub ids_at : Axes → Axes → Axes → ℕ → Ids
 ids_at t group thread flat = record {
   group_x = group.x;
   group_y = group.y;
@@ -69,30 +60,30 @@ ids_at t group thread flat = record {
   thread_z = group.z * t.z + thread.z;
 }
 
-abbrev pub ids_of : Threads → Dispatch → ℕ → Ids
-ids_of t d lane = ids_at t (corner d.x d.y (group_of_lane t lane)) (corner t.x t.y (flat_of t lane)) (flat_of t lane)
+abbrev pub ids_of : Axes → Dispatch → ℕ → Ids
+ids_of t d lane = ids_at t (standing d.groups.x d.groups.y (group_of_lane t lane)) (standing t.x t.y (flat_of t lane)) (flat_of t lane)
 
--- what the dispatch gives a lane
-abbrev pub setting_of : Shader → Dispatch → ℕ → Setting
-setting_of p d lane = record {
-  ids = ids_of (threads_in p.declarations) d lane;
+-- what the dispatch gives a lane, where groups have those threads
+abbrev pub setting_of : Axes → Dispatch → ℕ → Setting
+setting_of t d lane = record {
+  ids = ids_of t d lane;
   constants = d.constants;
-  extent = λ room. length (room_words d.memory (group_of_lane (threads_in p.declarations) lane) room);
+  extent = λ room. length (room_words d.memory (group_of_lane t lane) room);
 }
 
--- A dispatch for a program and its bindings: 1 to 65,535 groups along each axis, words in memory, and for each lane a setting that
--- fits, so that rooms and constant buffers have the lengths that are declared or asked for.
-pub record IsDispatch (p : Shader) (bindings : List Binding) (d : Dispatch) : Type 0 where
-  pub x : (1 ≤ d.x) × (d.x ≤ 65535)
-  pub y : (1 ≤ d.y) × (d.y ≤ 65535)
-  pub z : (1 ≤ d.z) × (d.z ≤ 65535)
+-- A dispatch for groups of threads: 1 to 65,535 groups along each axis, words in memory, and for each lane a setting that fits, so that
+-- rooms and constant buffers have the lengths that are declared or asked for.
+pub record IsDispatch (t : Axes) (fits : Setting → Type 0) (d : Dispatch) : Type 0 where
+  pub x : (1 ≤ d.groups.x) × (d.groups.x ≤ 65535)
+  pub y : (1 ≤ d.groups.y) × (d.groups.y ≤ 65535)
+  pub z : (1 ≤ d.groups.z) × (d.groups.z ≤ 65535)
   pub views : (room : Room) → AreWords (d.memory.views room)
   pub shared : (group slot : ℕ) → AreWords (d.memory.shared group slot)
-  pub settings : (lane : ℕ) → lane < lanes_of (threads_in p.declarations) d → Fits p bindings (setting_of p d lane)
+  pub settings : (lane : ℕ) → lane < lanes_of t d → fits (setting_of t d lane)
 
-abbrev pub AreLanes : Shader → Dispatch → List ℕ → Type 0
-AreLanes p d [] = Unit {0}
-AreLanes p d (lane ∷ picks) = (lane < lanes_of (threads_in p.declarations) d) × AreLanes p d picks
+abbrev pub AreLanes : Axes → Dispatch → List ℕ → Type 0
+AreLanes t d [] = Unit {0}
+AreLanes t d (lane ∷ picks) = (lane < lanes_of t d) × AreLanes t d picks
 
 -- WHAT LANES SHARE, which is the value of a run: the memory, and for each lane its events with their answers, and whether it waits at a
 -- barrier or has ended.
@@ -149,19 +140,19 @@ is_barrier other = false
 abbrev pub set_at : {X : Type 0} → (ℕ → X) → ℕ → X → ℕ → X
 set_at f k x i = if nat_eq i k then x else f i
 
-abbrev pub all_wait : Threads → ℕ → (ℕ → Bool) → Bool
-all_wait t group waits = list_all waits (numbers_from (group * group_size t) (group_size t))
+abbrev pub all_wait : Axes → ℕ → (ℕ → Bool) → Bool
+all_wait t group waits = list_all waits (range_with_len (group * group_size t) (group_size t))
 
-abbrev pub released : Threads → ℕ → (ℕ → Bool) → ℕ → Bool
+abbrev pub released : Axes → ℕ → (ℕ → Bool) → ℕ → Bool
 released t group waits lane = if nat_eq (group_of_lane t lane) group then false else waits lane
 
-abbrev pub meeting : Threads → ℕ → (ℕ → Bool) → ℕ → Bool
+abbrev pub meeting : Axes → ℕ → (ℕ → Bool) → ℕ → Bool
 meeting t group waits = if all_wait t group waits then released t group waits else waits
 
-abbrev pub waits_after : Threads → (ℕ → Bool) → ℕ → Event → ℕ → Bool
+abbrev pub waits_after : Axes → (ℕ → Bool) → ℕ → Event → ℕ → Bool
 waits_after t waits lane e = if is_barrier e then meeting t (group_of_lane t lane) (set_at waits lane true) else waits
 
-abbrev pub shares_after : Threads → Shares → ℕ → Event → Shares
+abbrev pub shares_after : Axes → Shares → ℕ → Event → Shares
 shares_after t c lane e = record {
   memory = memory_after c.memory (group_of_lane t lane) e;
   log = set_at c.log lane (c.log lane ++ record { event = e; answer = answer_of c.memory (group_of_lane t lane) e } ∷ []);
@@ -169,7 +160,7 @@ shares_after t c lane e = record {
   has_ended = c.has_ended;
 }
 
-abbrev pub shared_machine : Threads → Machine Shares
+abbrev pub shared_machine : Axes → Machine Shares
 shared_machine t = record {
   is_idle = λ c lane. c.waits lane || c.has_ended lane;
   answer = λ c lane e. answer_of c.memory (group_of_lane t lane) e;

@@ -1,6 +1,7 @@
 -- The instructions of a function's body as lines: what each is in a module, and what its ids stand for.
 use Rattle.std.specs.Prelude.{◌≡◌, ℕ, ◌+◌, ◌≤◌, ◌⊎◌, List, [], ◌∷◌, ◌++◌, flat_map}
-use Rattle.spirv_words.specs.Text.{Instr, instr}
+use Rattle.spirv_words.specs.Operations.{OpAccessChain, OpIAdd, OpLoad, OpStore}
+use Rattle.spirv_words.specs.Text.{Instr, instruction}
 use Rattle.translator.specs.declared.line.Line.{Line}
 use Rattle.translator.specs.declared.line.Line.TheVariants.{Load, Sum, Point, PointShared, Store, StoreShared}
 use Rattle.translator.specs.declared.names.Name.{Name}
@@ -9,12 +10,12 @@ use Rattle.translator.specs.declared.names.Found.{Found}
 
 -- The ids of types: 5 words, 6 pointers to words of the lane, 7 pointers to words of shared memory.
 abbrev pub instr_of : Line → Instr
-instr_of (Load result pointer) = instr 61 (5 ∷ result ∷ pointer ∷ [])
-instr_of (Sum result a b) = instr 128 (5 ∷ result ∷ a ∷ b ∷ [])
-instr_of (Point result array index) = instr 65 (6 ∷ result ∷ array ∷ index ∷ [])
-instr_of (PointShared slot result array index) = instr 65 (7 ∷ result ∷ array ∷ index ∷ [])
-instr_of (Store pointer value) = instr 62 (pointer ∷ value ∷ [])
-instr_of (StoreShared slot pointer value) = instr 62 (pointer ∷ value ∷ [])
+instr_of (Load result pointer) = instruction OpLoad (5 ∷ result ∷ pointer ∷ [])
+instr_of (Sum result a b) = instruction OpIAdd (5 ∷ result ∷ a ∷ b ∷ [])
+instr_of (Point result array index) = instruction OpAccessChain (6 ∷ result ∷ array ∷ index ∷ [])
+instr_of (PointShared slot result array index) = instruction OpAccessChain (7 ∷ result ∷ array ∷ index ∷ [])
+instr_of (Store pointer value) = instruction OpStore (pointer ∷ value ∷ [])
+instr_of (StoreShared slot pointer value) = instruction OpStore (pointer ∷ value ∷ [])
 
 abbrev pub code_of : List Line → List Instr
 code_of [] = []

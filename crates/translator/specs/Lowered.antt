@@ -1,5 +1,5 @@
 -- What the body of a module owes to its program.
-use Rattle.std.specs.Prelude.{◌≡◌, ℕ, ◌<◌, ◌≤◌, List, [], ◌∷◌, ◌++◌, map, IsTrue}
+use Rattle.std.specs.Prelude.{◌≡◌, ℕ, ◌<◌, ◌≤◌, ◌^◌, List, [], ◌∷◌, ◌++◌, map, IsTrue}
 use Rattle.std.specs.List.{list_all}
 use Rattle.tpf_program.specs.declared.instruction.Instruction.{Instruction}
 use Rattle.tpf_program.specs.Extents.{shared_extent}
@@ -49,6 +49,7 @@ pub record IsLowerable (p : Shader) : Type 0 where
   pub declarations : IsTrue (list_all (λ d. is_built d.what) p.declarations)
   pub temps : temps_of p.declarations ≤ 4096
   pub slots : (slot : ℕ) → 0 < shared_extent slot p.declarations → slot < 64
+  pub words : (slot : ℕ) → shared_extent slot p.declarations < 2 ^ 32
   pub instructions : IsTrue (list_all (is_built_in p.declarations) p.instructions)
   pub end : ReturnsAtEnd p.instructions
   pub components : (n : ℕ) → At p n SelectComponents

@@ -1,4 +1,5 @@
 -- What a module owes to the program that it was translated from.
+use Rattle.tpf_decode.specs.Profiles.{Profile, Base}
 use Rattle.std.specs.Prelude.{ℕ, List}
 use Rattle.word_base.specs.Words.{words_of}
 use Rattle.word_base.specs.Lanes.{SameLanes}
@@ -17,9 +18,9 @@ use Rattle.translator.specs.Wanted.{group_of, wanted_of}
 
 -- Under one setting nobody can tell the module's lane from the program's: under every list of answers both make the same events in the same
 -- order, end together and spin together, and the module's is never wrong.
-abbrev pub FollowsIn : Shader → List Binding → Module → Setting → Type 0
-FollowsIn p bindings m setting =
-    SameLanes (bytecode.step p setting) (lane.lane m (places_of p bindings) setting) bytecode.start (lane.start m (places_of p bindings) setting)
+abbrev pub FollowsIn : Profile → Shader → List Binding → Module → Setting → Type 0
+FollowsIn profile p bindings m setting =
+    SameLanes (bytecode.step profile p setting) (lane.lane m (places_of bindings) setting) bytecode.start (lane.start m (places_of bindings) setting)
 
 -- The words are a module of that version, which has the form of one, the shape of the program that the chunk `SHEX` of the bytes spells,
 -- and does what that program does, under the binding map: lane by lane, and so in every dispatch, under every list of picks.
@@ -28,9 +29,9 @@ pub record Means (bytes : List ℕ) (bindings : List Binding) (version : ℕ) (w
   pub program : Shader
   pub target : Module
   pub chunk : IsShex bytes content
-  pub spelled : Spells program (words_of content)
+  pub spelled : Spells Base program (words_of content)
   pub text : IsTextOf target words
   pub form : Form version (group_of program) (wanted_of program bindings) target
-  pub shape : HasShape program bindings target
-  pub follows : (setting : Setting) → Fits program bindings setting → FollowsIn program bindings target setting
-  pub runs : SameRuns program bindings target
+  pub shape : HasShape Base program bindings target
+  pub follows : (setting : Setting) → Fits program bindings setting → FollowsIn Base program bindings target setting
+  pub runs : SameRuns Base program bindings target

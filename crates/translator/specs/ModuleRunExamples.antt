@@ -8,15 +8,16 @@ use Rattle.tpf_program.specs.declared.declaration.Declaration.TheVariants as dec
 use Rattle.tpf_program.specs.Declarations.{threads_in}
 use Rattle.tpf_program.specs.Program.{Shader}
 use Rattle.tpf_program.specs.ExampleParts.{program_of}
-use Rattle.spirv_words.specs.Text.{Instr, Module, instr}
+use Rattle.spirv_words.specs.Operations.{OpAccessChain, OpAtomicIAdd, OpBranchConditional, OpCapability, OpConstant, OpControlBarrier, OpDecorate, OpEntryPoint, OpExecutionMode, OpFunction, OpFunctionEnd, OpIAdd, OpIMul, OpLoad, OpMemberDecorate, OpMemoryModel, OpStore, OpSwitch, OpTypeArray, OpTypeBool, OpTypeFunction, OpTypeInt, OpTypePointer, OpTypeRuntimeArray, OpTypeStruct, OpTypeVoid, OpUGreaterThanEqual, OpULessThan, OpVariable}
+use Rattle.spirv_words.specs.Text.{Instr, Module, instruction}
 use Rattle.spirv_words.specs.Globals.{Places}
 use Rattle.spirv_words.specs.Lane as lane
-use Rattle.spirv_words.specs.Sections.{sized}
+use Rattle.word_base.specs.Settings.{axes}
 use Rattle.spirv_words.specs.Variables.{Wanted, nothing_wanted}
 use Rattle.spirv_words.specs.VariableExamples.{buffer}
 use Rattle.spirv_words.specs.Broken.{Condition, Variables, broken_in, label, goto, select_to, loop_to, leave}
-use Rattle.translator.specs.Dispatch.{Dispatch, Logged, Shares, setting_of, at_start, shared_machine}
-use Rattle.translator.specs.RunExamples.{stand, run_in}
+use Rattle.translator.specs.Dispatch.{Dispatch, Logged, Shares}
+use Rattle.translator.specs.RunExamples.{run_by}
 use Rattle.translator.specs.RowExamples.{filled, dispatch, in_turns, words_of, logs_of, ended, one_lane, two_lanes, answered, stored, shared_alone}
 
 -- A module of version 1.3, with inputs and declarations of its own and the body of its function. Its ids are 1 main, 2 void, 3 the
@@ -27,16 +28,22 @@ module_of threads inputs decorations declarations body = record {
   version = 0x00010300;
   bound = 100;
   code =
-      instr 17 (1 ∷ []) ∷ instr 14 (0 ∷ 1 ∷ []) ∷
-      instr 15 (5 ∷ 1 ∷ 0x6E69616D ∷ 0 ∷ inputs) ∷ instr 16 (1 ∷ 17 ∷ threads ∷ 1 ∷ 1 ∷ []) ∷
-      instr 71 (11 ∷ 6 ∷ 4 ∷ []) ∷ instr 72 (12 ∷ 0 ∷ 35 ∷ 0 ∷ []) ∷ instr 71 (12 ∷ 2 ∷ []) ∷
-      instr 71 (15 ∷ 34 ∷ 0 ∷ []) ∷ instr 71 (15 ∷ 33 ∷ 0 ∷ []) ∷
-      (decorations ++ (instr 19 (2 ∷ []) ∷ instr 33 (3 ∷ 2 ∷ []) ∷ instr 20 (4 ∷ []) ∷ instr 21 (5 ∷ 32 ∷ 0 ∷ []) ∷
-      instr 43 (5 ∷ 6 ∷ 0 ∷ []) ∷ instr 43 (5 ∷ 7 ∷ 1 ∷ []) ∷ instr 43 (5 ∷ 8 ∷ 2 ∷ []) ∷
-      instr 43 (5 ∷ 9 ∷ 3 ∷ []) ∷ instr 43 (5 ∷ 10 ∷ 7 ∷ []) ∷
-      instr 29 (11 ∷ 5 ∷ []) ∷ instr 30 (12 ∷ 11 ∷ []) ∷ instr 32 (13 ∷ 12 ∷ 12 ∷ []) ∷ instr 32 (14 ∷ 12 ∷ 5 ∷ []) ∷
-      instr 59 (13 ∷ 15 ∷ 12 ∷ []) ∷ instr 32 (16 ∷ 7 ∷ 5 ∷ []) ∷
-      (declarations ++ (instr 54 (2 ∷ 1 ∷ 0 ∷ 3 ∷ []) ∷ label 20 ∷ (body ++ (instr 56 [] ∷ []))))));
+      instruction OpCapability (1 ∷ []) ∷ instruction OpMemoryModel (0 ∷ 1 ∷ []) ∷
+      instruction OpEntryPoint (5 ∷ 1 ∷ 0x6E69616D ∷ 0 ∷ inputs) ∷
+      instruction OpExecutionMode (1 ∷ 17 ∷ threads ∷ 1 ∷ 1 ∷ []) ∷
+      instruction OpDecorate (11 ∷ 6 ∷ 4 ∷ []) ∷ instruction OpMemberDecorate (12 ∷ 0 ∷ 35 ∷ 0 ∷ []) ∷
+      instruction OpDecorate (12 ∷ 2 ∷ []) ∷
+      instruction OpDecorate (15 ∷ 34 ∷ 0 ∷ []) ∷ instruction OpDecorate (15 ∷ 33 ∷ 0 ∷ []) ∷
+      (decorations ++ (instruction OpTypeVoid (2 ∷ []) ∷ instruction OpTypeFunction (3 ∷ 2 ∷ []) ∷
+      instruction OpTypeBool (4 ∷ []) ∷ instruction OpTypeInt (5 ∷ 32 ∷ 0 ∷ []) ∷
+      instruction OpConstant (5 ∷ 6 ∷ 0 ∷ []) ∷ instruction OpConstant (5 ∷ 7 ∷ 1 ∷ []) ∷
+      instruction OpConstant (5 ∷ 8 ∷ 2 ∷ []) ∷
+      instruction OpConstant (5 ∷ 9 ∷ 3 ∷ []) ∷ instruction OpConstant (5 ∷ 10 ∷ 7 ∷ []) ∷
+      instruction OpTypeRuntimeArray (11 ∷ 5 ∷ []) ∷ instruction OpTypeStruct (12 ∷ 11 ∷ []) ∷
+      instruction OpTypePointer (13 ∷ 12 ∷ 12 ∷ []) ∷ instruction OpTypePointer (14 ∷ 12 ∷ 5 ∷ []) ∷
+      instruction OpVariable (13 ∷ 15 ∷ 12 ∷ []) ∷ instruction OpTypePointer (16 ∷ 7 ∷ 5 ∷ []) ∷
+      (declarations ++ (instruction OpFunction (2 ∷ 1 ∷ 0 ∷ 3 ∷ []) ∷
+      label 20 ∷ (body ++ (instruction OpFunctionEnd [] ∷ []))))));
 }
 
 abbrev pub simple : List Instr → Module
@@ -44,19 +51,19 @@ simple body = module_of 1 [] [] [] body
 
 -- the pointer to a word of the view, by the id of its index; loads, stores and sums
 abbrev pub word_of_view : ℕ → ℕ → Instr
-word_of_view result index = instr 65 (14 ∷ result ∷ 15 ∷ 6 ∷ index ∷ [])
+word_of_view result index = instruction OpAccessChain (14 ∷ result ∷ 15 ∷ 6 ∷ index ∷ [])
 
 abbrev pub load : ℕ → ℕ → Instr
-load result pointer = instr 61 (5 ∷ result ∷ pointer ∷ [])
+load result pointer = instruction OpLoad (5 ∷ result ∷ pointer ∷ [])
 
 abbrev pub store : ℕ → ℕ → Instr
-store pointer value = instr 62 (pointer ∷ value ∷ [])
+store pointer value = instruction OpStore (pointer ∷ value ∷ [])
 
 abbrev pub add : ℕ → ℕ → ℕ → Instr
-add result left right = instr 128 (5 ∷ result ∷ left ∷ right ∷ [])
+add result left right = instruction OpIAdd (5 ∷ result ∷ left ∷ right ∷ [])
 
 abbrev pub choose_by : ℕ → ℕ → ℕ → Instr
-choose_by truth l k = instr 250 (truth ∷ l ∷ k ∷ [])
+choose_by truth l k = instruction OpBranchConditional (truth ∷ l ∷ k ∷ [])
 
 -- where lanes find the view and what else is bound, and a program with that many threads in its group
 abbrev pub view_alone : Places
@@ -70,16 +77,14 @@ abbrev pub view_wanted : Wanted
 view_wanted = record nothing_wanted { buffers = buffer 0 0 false false ∷ [] }
 
 abbrev pub broken_for : ℕ → Wanted → Module → List Condition
-broken_for threads wanted m = broken_in 0x00010300 (sized threads 1 1) wanted m
+broken_for threads wanted m = broken_in 0x00010300 (axes threads 1 1) wanted m
 
 abbrev pub broken_alone : Module → List Condition
 broken_alone m = broken_for 1 view_wanted m
 
 -- RUNS, where each pick makes fewer silent steps than a bound.
 abbrev pub run_module : ℕ → Module → Places → Dispatch → ℕ → List ℕ → Option Shares
-run_module threads m places d bound picks =
-    run_in (shared_machine (threads_in (threads_of threads).declarations)) bound (λ l. lane.lane m places (setting_of (threads_of threads) d l)) picks
-    (stand (λ l. lane.start m places (setting_of (threads_of threads) d l)) (at_start d))
+run_module threads m places d bound picks = run_by (threads_in (threads_of threads).declarations) (lane.lane m places) (lane.start m places) d bound picks
 
 -- the run of one lane on words of the view
 abbrev pub run_alone : Module → List ℕ → ℕ → ℕ → Option Shares
@@ -104,7 +109,8 @@ straight_ends = refl
 -- GUARDED STORE: 7 is stored in word 1 only where word 0 is less than 3.
 abbrev pub guarded : Module
 guarded = simple (
-    word_of_view 30 6 ∷ load 31 30 ∷ instr 176 (4 ∷ 32 ∷ 31 ∷ 9 ∷ []) ∷ select_to 22 ∷ choose_by 32 21 22 ∷
+    word_of_view 30 6 ∷ load 31 30 ∷ instruction OpULessThan (4 ∷ 32 ∷ 31 ∷ 9 ∷ []) ∷ select_to 22 ∷
+    choose_by 32 21 22 ∷
     label 21 ∷ word_of_view 33 7 ∷ store 33 10 ∷ goto 22 ∷
     label 22 ∷ leave ∷ [])
 
@@ -129,9 +135,9 @@ guarded_passes_ends = refl
 -- LOOP: it counts to 3 and adds 7 in each turn; behind its exit the count is stored in word 0 and the total in word 1.
 abbrev pub counts : Module
 counts = simple (
-    instr 59 (16 ∷ 30 ∷ 7 ∷ 6 ∷ []) ∷ instr 59 (16 ∷ 31 ∷ 7 ∷ 6 ∷ []) ∷ goto 21 ∷
+    instruction OpVariable (16 ∷ 30 ∷ 7 ∷ 6 ∷ []) ∷ instruction OpVariable (16 ∷ 31 ∷ 7 ∷ 6 ∷ []) ∷ goto 21 ∷
     label 21 ∷ loop_to 24 23 ∷ goto 22 ∷
-    label 22 ∷ load 32 30 ∷ instr 174 (4 ∷ 33 ∷ 32 ∷ 9 ∷ []) ∷ select_to 26 ∷ choose_by 33 25 26 ∷
+    label 22 ∷ load 32 30 ∷ instruction OpUGreaterThanEqual (4 ∷ 33 ∷ 32 ∷ 9 ∷ []) ∷ select_to 26 ∷ choose_by 33 25 26 ∷
     label 25 ∷ goto 24 ∷
     label 26 ∷ load 34 30 ∷ add 35 34 7 ∷ store 30 35 ∷ load 36 31 ∷ add 37 36 10 ∷ store 31 37 ∷ goto 23 ∷
     label 23 ∷ goto 21 ∷
@@ -152,7 +158,7 @@ counts_ends = refl
 -- SWITCH: case 0 falls through to the default, which stands between the cases and falls through to case 1. Each stores a word of its own.
 abbrev pub switches : Module
 switches = simple (
-    word_of_view 30 6 ∷ load 31 30 ∷ select_to 24 ∷ instr 251 (31 ∷ 22 ∷ 0 ∷ 21 ∷ 1 ∷ 23 ∷ []) ∷
+    word_of_view 30 6 ∷ load 31 30 ∷ select_to 24 ∷ instruction OpSwitch (31 ∷ 22 ∷ 0 ∷ 21 ∷ 1 ∷ 23 ∷ []) ∷
     label 21 ∷ word_of_view 32 7 ∷ store 32 7 ∷ goto 22 ∷
     label 22 ∷ word_of_view 33 8 ∷ store 33 8 ∷ goto 23 ∷
     label 23 ∷ word_of_view 34 9 ∷ store 34 9 ∷ goto 24 ∷
@@ -185,11 +191,14 @@ switch_other_ends = refl
 -- ATOMICS AND A BARRIER: two lanes add their numbers and 1 to a word that they share, meet at a barrier, and each stores the sum at its
 -- number.
 abbrev pub meets : Module
-meets = module_of 2 (43 ∷ []) (instr 71 (43 ∷ 11 ∷ 29 ∷ []) ∷ [])
-    (instr 28 (39 ∷ 5 ∷ 7 ∷ []) ∷ instr 32 (40 ∷ 4 ∷ 39 ∷ []) ∷ instr 59 (40 ∷ 41 ∷ 4 ∷ []) ∷ instr 32 (45 ∷ 4 ∷ 5 ∷ []) ∷
-    instr 32 (42 ∷ 1 ∷ 5 ∷ []) ∷ instr 59 (42 ∷ 43 ∷ 1 ∷ []) ∷ instr 43 (5 ∷ 44 ∷ 0x108 ∷ []) ∷ [])
-    (load 30 43 ∷ add 31 30 7 ∷ instr 65 (45 ∷ 46 ∷ 41 ∷ 6 ∷ []) ∷ instr 234 (5 ∷ 32 ∷ 46 ∷ 8 ∷ 6 ∷ 31 ∷ []) ∷
-    instr 224 (8 ∷ 8 ∷ 44 ∷ []) ∷ load 33 46 ∷ word_of_view 34 30 ∷ store 34 33 ∷ leave ∷ [])
+meets = module_of 2 (43 ∷ []) (instruction OpDecorate (43 ∷ 11 ∷ 29 ∷ []) ∷ [])
+    (instruction OpTypeArray (39 ∷ 5 ∷ 7 ∷ []) ∷ instruction OpTypePointer (40 ∷ 4 ∷ 39 ∷ []) ∷
+    instruction OpVariable (40 ∷ 41 ∷ 4 ∷ []) ∷ instruction OpTypePointer (45 ∷ 4 ∷ 5 ∷ []) ∷
+    instruction OpTypePointer (42 ∷ 1 ∷ 5 ∷ []) ∷ instruction OpVariable (42 ∷ 43 ∷ 1 ∷ []) ∷
+    instruction OpConstant (5 ∷ 44 ∷ 0x108 ∷ []) ∷ [])
+    (load 30 43 ∷ add 31 30 7 ∷ instruction OpAccessChain (45 ∷ 46 ∷ 41 ∷ 6 ∷ []) ∷
+    instruction OpAtomicIAdd (5 ∷ 32 ∷ 46 ∷ 8 ∷ 6 ∷ 31 ∷ []) ∷
+    instruction OpControlBarrier (8 ∷ 8 ∷ 44 ∷ []) ∷ load 33 46 ∷ word_of_view 34 30 ∷ store 34 33 ∷ leave ∷ [])
 
 pub meets_has_form : broken_for 2 (record view_wanted { shared = 1 ∷ []; inputs = 29 ∷ [] }) meets ≡ []
 meets_has_form = refl
@@ -197,7 +206,8 @@ meets_has_form = refl
 -- the picks of these lanes, and then five of each in turns
 abbrev pub meets_run : List ℕ → Option Shares
 meets_run picks =
-    run_module 2 meets (record view_alone { shared = 0 ∷ [] }) (dispatch (filled (Uav 0) (0 ∷ 0 ∷ []) ∷ filled (Shared 0) (0 ∷ []) ∷ [])) 8
+    run_module 2 meets (record view_alone { shared = 0 ∷ [] }) (dispatch (filled (Uav 0) (0 ∷ 0 ∷
+    []) ∷ filled (Shared 0) (0 ∷ []) ∷ [])) 8
     (picks ++ in_turns 5 two_lanes)
 
 -- the events of a lane, whose add is answered with that word
@@ -229,12 +239,15 @@ meets_ends_second_first = refl
 -- and its words are stored in words 1 and 2.
 abbrev pub structured : Module
 structured = module_of 1 []
-    (instr 71 (50 ∷ 2 ∷ []) ∷ instr 72 (50 ∷ 0 ∷ 35 ∷ 0 ∷ []) ∷ instr 72 (50 ∷ 0 ∷ 24 ∷ []) ∷
-    instr 71 (52 ∷ 34 ∷ 0 ∷ []) ∷ instr 71 (52 ∷ 33 ∷ 1 ∷ []) ∷ [])
-    (instr 30 (50 ∷ 11 ∷ []) ∷ instr 32 (51 ∷ 12 ∷ 50 ∷ []) ∷ instr 59 (51 ∷ 52 ∷ 12 ∷ []) ∷ [])
-    (word_of_view 30 6 ∷ load 31 30 ∷ add 32 31 7 ∷ instr 132 (5 ∷ 33 ∷ 32 ∷ 8 ∷ []) ∷
-    instr 65 (14 ∷ 34 ∷ 52 ∷ 6 ∷ 33 ∷ []) ∷ load 35 34 ∷ word_of_view 36 7 ∷ store 36 35 ∷ add 37 33 7 ∷
-    instr 65 (14 ∷ 38 ∷ 52 ∷ 6 ∷ 37 ∷ []) ∷ load 39 38 ∷ word_of_view 40 8 ∷ store 40 39 ∷ leave ∷ [])
+    (instruction OpDecorate (50 ∷ 2 ∷ []) ∷ instruction OpMemberDecorate (50 ∷ 0 ∷ 35 ∷ 0 ∷ []) ∷
+    instruction OpMemberDecorate (50 ∷ 0 ∷ 24 ∷ []) ∷
+    instruction OpDecorate (52 ∷ 34 ∷ 0 ∷ []) ∷ instruction OpDecorate (52 ∷ 33 ∷ 1 ∷ []) ∷ [])
+    (instruction OpTypeStruct (50 ∷ 11 ∷ []) ∷ instruction OpTypePointer (51 ∷ 12 ∷ 50 ∷ []) ∷
+    instruction OpVariable (51 ∷ 52 ∷ 12 ∷ []) ∷ [])
+    (word_of_view 30 6 ∷ load 31 30 ∷ add 32 31 7 ∷ instruction OpIMul (5 ∷ 33 ∷ 32 ∷ 8 ∷ []) ∷
+    instruction OpAccessChain (14 ∷ 34 ∷ 52 ∷ 6 ∷ 33 ∷ []) ∷ load 35 34 ∷ word_of_view 36 7 ∷ store 36 35 ∷
+    add 37 33 7 ∷
+    instruction OpAccessChain (14 ∷ 38 ∷ 52 ∷ 6 ∷ 37 ∷ []) ∷ load 39 38 ∷ word_of_view 40 8 ∷ store 40 39 ∷ leave ∷ [])
 
 abbrev pub both_wanted : Wanted
 both_wanted = record nothing_wanted { buffers = buffer 0 0 false false ∷ buffer 0 1 true false ∷ [] }
@@ -250,7 +263,8 @@ both_views = record view_alone {
 abbrev pub both_run : Module → ℕ → Option Shares
 both_run m first =
     run_module 1 m both_views
-    (dispatch (filled (Uav 0) (first ∷ 0 ∷ 0 ∷ []) ∷ filled (Resource 0) (10 ∷ 11 ∷ 20 ∷ 21 ∷ 30 ∷ 31 ∷ []) ∷ [])) 8 (in_turns 6 one_lane)
+    (dispatch (filled (Uav 0) (first ∷ 0 ∷ 0 ∷ []) ∷ filled (Resource 0) (10 ∷ 11 ∷ 20 ∷ 21 ∷ 30 ∷ 31 ∷ []) ∷
+    [])) 8 (in_turns 6 one_lane)
 
 -- the second element, and the last
 pub structured_second : words_of (Uav 0) (both_run structured 0) ≡ Some (0 ∷ 20 ∷ 21 ∷ [])
@@ -261,7 +275,8 @@ structured_last = refl
 
 pub structured_log :
     logs_of one_lane (both_run structured 1) ≡ Some (
-    (answered (Load (Uav 0) 0) 1 ∷ answered (Load (Resource 0) 4) 30 ∷ stored 1 30 ∷ answered (Load (Resource 0) 5) 31 ∷ stored 2 31 ∷ []) ∷ [])
+    (answered (Load (Uav 0) 0) 1 ∷ answered (Load (Resource 0) 4) 30 ∷
+    stored 1 30 ∷ answered (Load (Resource 0) 5) 31 ∷ stored 2 31 ∷ []) ∷ [])
 structured_log = refl
 
 pub structured_second_ends : ended one_lane (both_run structured 0) ≡ Some (true ∷ [])
@@ -274,13 +289,17 @@ structured_last_ends = refl
 -- of words.
 abbrev pub records : Module
 records = module_of 1 []
-    (instr 72 (50 ∷ 0 ∷ 35 ∷ 0 ∷ []) ∷ instr 72 (50 ∷ 1 ∷ 35 ∷ 4 ∷ []) ∷ instr 71 (51 ∷ 6 ∷ 8 ∷ []) ∷ instr 72 (52 ∷ 0 ∷ 35 ∷ 0 ∷ []) ∷
-    instr 72 (52 ∷ 0 ∷ 24 ∷ []) ∷ instr 71 (52 ∷ 2 ∷ []) ∷ instr 71 (54 ∷ 34 ∷ 0 ∷ []) ∷ instr 71 (54 ∷ 33 ∷ 1 ∷ []) ∷ [])
-    (instr 30 (50 ∷ 5 ∷ 5 ∷ []) ∷ instr 29 (51 ∷ 50 ∷ []) ∷ instr 30 (52 ∷ 51 ∷ []) ∷ instr 32 (53 ∷ 12 ∷ 52 ∷ []) ∷
-    instr 59 (53 ∷ 54 ∷ 12 ∷ []) ∷ [])
+    (instruction OpMemberDecorate (50 ∷ 0 ∷ 35 ∷ 0 ∷ []) ∷ instruction OpMemberDecorate (50 ∷ 1 ∷ 35 ∷ 4 ∷ []) ∷
+    instruction OpDecorate (51 ∷ 6 ∷ 8 ∷ []) ∷ instruction OpMemberDecorate (52 ∷ 0 ∷ 35 ∷ 0 ∷ []) ∷
+    instruction OpMemberDecorate (52 ∷ 0 ∷ 24 ∷ []) ∷ instruction OpDecorate (52 ∷ 2 ∷ []) ∷
+    instruction OpDecorate (54 ∷ 34 ∷ 0 ∷ []) ∷ instruction OpDecorate (54 ∷ 33 ∷ 1 ∷ []) ∷ [])
+    (instruction OpTypeStruct (50 ∷ 5 ∷ 5 ∷ []) ∷ instruction OpTypeRuntimeArray (51 ∷ 50 ∷ []) ∷
+    instruction OpTypeStruct (52 ∷ 51 ∷ []) ∷ instruction OpTypePointer (53 ∷ 12 ∷ 52 ∷ []) ∷
+    instruction OpVariable (53 ∷ 54 ∷ 12 ∷ []) ∷ [])
     (word_of_view 30 6 ∷ load 31 30 ∷ add 32 31 7 ∷
-    instr 65 (14 ∷ 33 ∷ 54 ∷ 6 ∷ 32 ∷ 6 ∷ []) ∷ load 34 33 ∷ word_of_view 35 7 ∷ store 35 34 ∷
-    instr 65 (14 ∷ 36 ∷ 54 ∷ 6 ∷ 32 ∷ 7 ∷ []) ∷ load 37 36 ∷ word_of_view 38 8 ∷ store 38 37 ∷ leave ∷ [])
+    instruction OpAccessChain (14 ∷ 33 ∷ 54 ∷ 6 ∷ 32 ∷ 6 ∷ []) ∷ load 34 33 ∷ word_of_view 35 7 ∷ store 35 34 ∷
+    instruction OpAccessChain (14 ∷ 36 ∷ 54 ∷ 6 ∷ 32 ∷ 7 ∷ []) ∷ load 37 36 ∷ word_of_view 38 8 ∷ store 38 37 ∷
+    leave ∷ [])
 
 pub records_variables : broken_for 1 both_wanted records ≡ Variables ∷ []
 records_variables = refl

@@ -1,5 +1,6 @@
 -- What a statement owes to the instruction that it was raised from.
-use Rattle.std.specs.Prelude.{◌≡◌, ℕ, ◌+◌, ◌*◌, ◌<◌, ◌≤◌, ◌^◌, nat_eq, not, ◌&&◌, ◌||◌, if◌then◌else◌, Bool, List, [], ◌∷◌, map, length, Some, slice_get}
+use Rattle.tpf_decode.specs.Profiles.{Base}
+use Rattle.std.specs.Prelude.{◌≡◌, ℕ, ◌+◌, ◌*◌, ◌<◌, ◌≤◌, ◌^◌, nat_eq, not, ◌&&◌, ◌||◌, if◌then◌else◌, Bool, true, false, IsTrue, List, [], ◌∷◌, map, length, Some, slice_get}
 use Rattle.word_base.specs.declared.event.Event.{Event}
 use Rattle.word_base.specs.Lanes.{Turn, Goes, Asks}
 use Rattle.word_base.specs.Registers.{Registers}
@@ -8,10 +9,12 @@ use Rattle.tpf_decode.specs.declared.argument.Select.{Select}
 use Rattle.tpf_decode.specs.declared.argument.Select.TheVariants.{One}
 use Rattle.tpf_program.specs.declared.declaration.Declared.{Declared}
 use Rattle.tpf_program.specs.declared.instruction.Instruction.{Instruction}
-use Rattle.tpf_program.specs.Bytecode.{plan, result, result_by, goes_to, onward}
-use Rattle.tpf_program.specs.Extents.{FitsRooms}
+use Rattle.tpf_program.specs.Bytecode.{plan, result, left_by, goes_to, onward}
+use Rattle.translator.specs.Bindings.{HasRooms}
 use Rattle.tpf_program.specs.Holding.{AreOfWords, HoldWords}
-use Rattle.tpf_program.specs.Opcodes.{meaning_of}
+use Rattle.tpf_decode.specs.Opcodes.{meaning_of}
+use Rattle.tpf_decode.specs.declared.meaning.Meaning.{Meaning}
+use Rattle.tpf_decode.specs.declared.meaning.Meaning.TheVariants.{One as OnOne, StoreRaw, Nop}
 use Rattle.tpf_program.specs.Program.{Shader}
 use Rattle.tpf_program.specs.Sizes.{temps_of}
 pub use Rattle.tpf_program.specs.StraightLine.{is_temp, is_null, is_literal, is_shared, has_mask, is_register, is_destination, is_source, is_nop, is_move, is_sum, is_saturated, is_store, is_built_in}
@@ -43,8 +46,8 @@ pub record Left (p : Shader) (k : List Statement) (registers : Registers) (u : S
 -- The statement makes the events of the instruction and leaves its registers, whatever follows it.
 abbrev pub Does : Shader → Statement → Instruction → Type 0
 Does p x i =
-    (setting : Setting) (registers : Registers) (k : List Statement) (t : Words) → FitsRooms p setting → HoldWords registers → Agrees p registers t
-    → Plans (step (size_of p) setting) (stand (push x k) t) (plan p setting registers i) (λ answers u. Left p k (result p setting registers i answers) u)
+    (setting : Setting) (registers : Registers) (k : List Statement) (t : Words) → HasRooms p setting → HoldWords registers → Agrees p registers t
+    → Plans (step (size_of p) setting) (stand (push x k) t) (plan Base p setting registers i) (λ answers u. Left p k (result Base p setting registers i answers) u)
 
 -- the slots of shared memory to which an instruction stores: one for each component of a store's mask
 abbrev pub slots_for : Instruction → List ℕ
@@ -59,9 +62,10 @@ pub record Raises (old new : Tree) (p : Shader) (i : Instruction) (r : ℕ) : Ty
   pub slots : stored statement ≡ slots_for i
 
 -- When its plan is made, control goes to the next place.
-abbrev pub GoesOn : Instruction → Type 0
-GoesOn i =
-    (k : Context) (q : ℕ) (answers : List ℕ) → onward k q (meaning_of i.code) i answers ≡ goes_to (result_by k (meaning_of i.code) i answers) (q + 1)
+pub record GoesOn (i : Instruction) : Type 0 where
+  pub meaning : Meaning
+  pub means : meaning_of Base i.code ≡ Some meaning
+  pub onward' : (k : Context) (q : ℕ) (answers : List ℕ) → onward Base k q meaning i answers ≡ goes_to (left_by k meaning i answers) (q + 1)
 
 -- Statements do what instructions do, one by one.
 abbrev pub AllDo : Shader → List Statement → List Instruction → Type 0
@@ -80,6 +84,23 @@ is_arithmetic temps i = not (is_saturated i) && (is_move temps i || is_sum temps
 
 abbrev pub is_raised : List Declared → Instruction → Bool
 is_raised declarations i = is_nop i || (is_arithmetic (temps_of declarations) i || is_store declarations i)
+
+-- which of these it is, by its meaning
+abbrev pub does_nothing : Meaning → Bool
+does_nothing Nop = true
+does_nothing other = false
+
+abbrev pub stores_raw : Meaning → Bool
+stores_raw StoreRaw = true
+stores_raw other = false
+
+abbrev pub acts_on_one : Meaning → Bool
+acts_on_one (OnOne op) = true
+acts_on_one other = false
+
+-- where something is declared
+abbrev pub IsRaised : Instruction → Type 0
+IsRaised i = (declarations : List Declared) × IsTrue (is_raised declarations i)
 
 -- an instruction that does nothing: nop, and one that writes to the null operand
 abbrev pub is_quiet : Instruction → Bool

@@ -1,6 +1,7 @@
 -- What the parts of a statement owe to an instruction that leaves one word for each component of a destination: first all words are
 -- computed, from the registers as they stand, and then they are written. And what they owe to one that stores words.
-use Rattle.std.specs.Prelude.{◌≡◌, ℕ, ◌+◌, ◌*◌, ◌/◌, ◌<◌, ◌≤◌, nat_lt, Bool, IsTrue, List, [], ◌∷◌, drop, filter, map, length, Some}
+use Rattle.tpf_decode.specs.Profiles.{Base}
+use Rattle.std.specs.Prelude.{◌≡◌, ℕ, ◌+◌, ◌*◌, ◌/◌, ◌<◌, ◌≤◌, nat_lt, Bool, IsTrue, List, [], ◌∷◌, drop, filter, map, length, Option, Some}
 use Rattle.std.specs.List.{list_all}
 use Rattle.word_base.specs.Alu.{unary, binary}
 use Rattle.word_base.specs.declared.event.Event.TheVariants.{Store}
@@ -10,7 +11,9 @@ use Rattle.word_base.specs.Registers.{Registers}
 use Rattle.word_base.specs.Settings.{Setting}
 use Rattle.tpf_decode.specs.declared.argument.Select.{Select}
 use Rattle.tpf_program.specs.declared.instruction.Instruction.{Instruction}
-use Rattle.tpf_program.specs.Opcodes.{Meaning, meaning_of, One, Two}
+use Rattle.tpf_decode.specs.Opcodes.{meaning_of}
+use Rattle.tpf_decode.specs.declared.meaning.Meaning.{Meaning}
+use Rattle.tpf_decode.specs.declared.meaning.Meaning.TheVariants.{One, Two}
 use Rattle.tpf_program.specs.Program.{Shader}
 use Rattle.tpf_program.specs.Sizes.{temps_of}
 use Rattle.tpf_program.specs.Values.{Context, context, value}
@@ -26,13 +29,13 @@ abbrev pub masked_from : Select → ℕ → List ℕ
 masked_from select c = filter (in_mask select) (drop c (0 ∷ 1 ∷ 2 ∷ 3 ∷ []))
 
 -- the word that an instruction of one or two sources leaves at a component
-abbrev pub word_by : Meaning → Instruction → Context → ℕ → ℕ
-word_by (One op) i k c = unary op (value k i.o1 c)
-word_by (Two op) i k c = binary op (value k i.o1 c) (value k i.o2 c)
+abbrev pub word_by : Option Meaning → Instruction → Context → ℕ → ℕ
+word_by (Some (One op)) i k c = unary op (value k i.o1 c)
+word_by (Some (Two op)) i k c = binary op (value k i.o1 c) (value k i.o2 c)
 word_by other i k c = 0
 
 abbrev pub word_of : Instruction → Context → ℕ → ℕ
-word_of i k c = word_by (meaning_of i.code) i k c
+word_of i k c = word_by (meaning_of Base i.code) i k c
 
 -- In lanes of each program that it fits, the expression at r has that word. It takes so many ids at most.
 pub record Finds (old new : Tree) (fits : ℕ → Bool) (word : Context → ℕ) (most r : ℕ) : Type 0 where

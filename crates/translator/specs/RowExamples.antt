@@ -1,4 +1,5 @@
 -- Programs run on small memories: the words, the events and the ends that each run leaves.
+use Rattle.tpf_decode.specs.Profiles.{Base}
 use Rattle.std.specs.Prelude.{◌≡◌, ℕ, zero, suc, if◌then◌else◌, Bool, true, false, List, [], ◌∷◌, ◌++◌, map, Option, Some, option_map, refl}
 use Rattle.word_base.specs.declared.event.Act.TheVariants.{Add, Sub}
 use Rattle.word_base.specs.declared.event.Classes.{Classes}
@@ -7,6 +8,7 @@ use Rattle.word_base.specs.declared.event.Event.TheVariants.{Load, Store, Atomic
 use Rattle.word_base.specs.declared.event.Room.{Room}
 use Rattle.word_base.specs.declared.event.Room.TheVariants.{Resource, Uav, Counter, Shared}
 use Rattle.word_base.specs.declared.event.Scope.TheVariants.{Group}
+use Rattle.word_base.specs.Settings.{axes}
 use Rattle.tpf_program.specs.declared.declaration.Declaration.{Declaration}
 use Rattle.tpf_program.specs.declared.declaration.Declaration.TheVariants as declaration
 use Rattle.tpf_program.specs.declared.declaration.SharedKind.TheVariants as shared
@@ -17,13 +19,13 @@ use Rattle.tpf_decode.specs.declared.argument.Kind.TheVariants as kind
 use Rattle.tpf_decode.specs.declared.argument.Select.TheVariants.{Bare, Mask, Swizzle, One}
 use Rattle.tpf_program.specs.Bytecode as bytecode
 use Rattle.tpf_program.specs.Declarations.{threads_in}
-use Rattle.tpf_program.specs.Opcodes.{meaning_but_return}
+use Rattle.tpf_decode.specs.Opcodes.{meaning_of, opcode_table}
 use Rattle.tpf_program.specs.Program.{Shader}
 use Rattle.tpf_program.specs.Spelling.{nothing}
 use Rattle.tpf_program.specs.ExampleParts.{slot_of, element, literal, r0, r0_to, instruction, bare, program_of}
 use Rattle.tpf_program.specs.FlowExamples.{turning}
-use Rattle.translator.specs.Dispatch.{Dispatch, Logged, Shares, setting_of, at_start, same_room, shared_machine}
-use Rattle.translator.specs.RunExamples.{stand, run_in, flat, sums}
+use Rattle.translator.specs.Dispatch.{Dispatch, Logged, Shares, same_room}
+use Rattle.translator.specs.RunExamples.{run_by, flat, sums}
 
 -- DISPATCHES of one group, by the words of the rooms that are there.
 pub record Filled : Type 0 where
@@ -39,18 +41,14 @@ words_among (f ∷ rest) room = if same_room room f.room then f.words else words
 
 abbrev pub dispatch : List Filled → Dispatch
 dispatch rooms = record {
-  x = 1;
-  y = 1;
-  z = 1;
+  groups = axes 1 1 1;
   constants = λ slot. [];
   memory = record { views = words_among rooms; shared = λ group slot. words_among rooms (Shared slot) };
 }
 
 -- RUNS, where each pick makes fewer silent steps than a bound, and picks in turns.
 abbrev pub run : Shader → Dispatch → ℕ → List ℕ → Option Shares
-run p d bound picks =
-    run_in (shared_machine (threads_in p.declarations)) bound (λ l. bytecode.step p (setting_of p d l)) picks
-    (stand (λ l. bytecode.start) (at_start d))
+run p d bound picks = run_by (threads_in p.declarations) (bytecode.step Base p) (λ setting. bytecode.start) d bound picks
 
 abbrev pub in_turns : ℕ → List ℕ → List ℕ
 in_turns zero lanes = []
@@ -124,41 +122,41 @@ sum_events lane answer =
 
 -- in turns; the last lane first; the first two up to the barrier, where they wait for the others
 pub sum_in_turns : words_of (Uav 0) (sum_behind []) ≡ Some (6 ∷ 6 ∷ 6 ∷ 6 ∷ [])
-unfolding meaning_but_return
+unfolding meaning_of opcode_table
 sum_in_turns = refl
 
 pub sum_last_first : words_of (Uav 0) (sum_behind (3 ∷ 2 ∷ 1 ∷ 0 ∷ [])) ≡ Some (6 ∷ 6 ∷ 6 ∷ 6 ∷ [])
-unfolding meaning_but_return
+unfolding meaning_of opcode_table
 sum_last_first = refl
 
 pub sum_two_wait : words_of (Uav 0) (sum_behind (0 ∷ 0 ∷ 1 ∷ 1 ∷ [])) ≡ Some (6 ∷ 6 ∷ 6 ∷ 6 ∷ [])
-unfolding meaning_but_return
+unfolding meaning_of opcode_table
 sum_two_wait = refl
 
 pub sum_logs_in_turns : logs_of four_lanes (sum_behind []) ≡ Some (sum_events 0 0 ∷ sum_events 1 0 ∷ sum_events 2 1 ∷ sum_events 3 3 ∷ [])
-unfolding meaning_but_return
+unfolding meaning_of opcode_table
 sum_logs_in_turns = refl
 
 pub sum_logs_last_first :
     logs_of four_lanes (sum_behind (3 ∷ 2 ∷ 1 ∷ 0 ∷ [])) ≡ Some (sum_events 0 6 ∷ sum_events 1 5 ∷ sum_events 2 3 ∷ sum_events 3 0 ∷ [])
-unfolding meaning_but_return
+unfolding meaning_of opcode_table
 sum_logs_last_first = refl
 
 pub sum_logs_two_wait :
     logs_of four_lanes (sum_behind (0 ∷ 0 ∷ 1 ∷ 1 ∷ [])) ≡ Some (sum_events 0 0 ∷ sum_events 1 0 ∷ sum_events 2 1 ∷ sum_events 3 3 ∷ [])
-unfolding meaning_but_return
+unfolding meaning_of opcode_table
 sum_logs_two_wait = refl
 
 pub sum_ends_in_turns : ended four_lanes (sum_behind []) ≡ Some (true ∷ true ∷ true ∷ true ∷ [])
-unfolding meaning_but_return
+unfolding meaning_of opcode_table
 sum_ends_in_turns = refl
 
 pub sum_ends_last_first : ended four_lanes (sum_behind (3 ∷ 2 ∷ 1 ∷ 0 ∷ [])) ≡ Some (true ∷ true ∷ true ∷ true ∷ [])
-unfolding meaning_but_return
+unfolding meaning_of opcode_table
 sum_ends_last_first = refl
 
 pub sum_ends_two_wait : ended four_lanes (sum_behind (0 ∷ 0 ∷ 1 ∷ 1 ∷ [])) ≡ Some (true ∷ true ∷ true ∷ true ∷ [])
-unfolding meaning_but_return
+unfolding meaning_of opcode_table
 sum_ends_two_wait = refl
 
 -- WAITING LANES: the first lane returns, and the second waits at a barrier where the first never comes.
@@ -174,19 +172,19 @@ abbrev pub wait_run : Option Shares
 wait_run = run waiting_pair (dispatch []) 8 (in_turns 3 two_lanes)
 
 pub wait_first_log : log_of 0 wait_run ≡ Some []
-unfolding meaning_but_return
+unfolding meaning_of opcode_table
 wait_first_log = refl
 
 pub wait_second_log : log_of 1 wait_run ≡ Some (answered (Barrier Group shared_alone) 0 ∷ [])
-unfolding meaning_but_return
+unfolding meaning_of opcode_table
 wait_second_log = refl
 
 pub wait_ends : ended two_lanes wait_run ≡ Some (true ∷ false ∷ [])
-unfolding meaning_but_return
+unfolding meaning_of opcode_table
 wait_ends = refl
 
 pub wait_waits : waiting two_lanes wait_run ≡ Some (false ∷ true ∷ [])
-unfolding meaning_but_return
+unfolding meaning_of opcode_table
 wait_waits = refl
 
 -- COUNTERS: a counter steps up, down, and down past 0.
@@ -206,25 +204,25 @@ count_run =
     (in_turns 7 one_lane)
 
 pub count_words : words_of (Uav 1) count_run ≡ Some (0 ∷ 0 ∷ 4294967295 ∷ [])
-unfolding meaning_but_return
+unfolding meaning_of opcode_table
 count_words = refl
 
 pub count_counter : words_of (Counter 0) count_run ≡ Some (4294967295 ∷ [])
-unfolding meaning_but_return
+unfolding meaning_of opcode_table
 count_counter = refl
 
 pub count_others : words_of (Uav 0) count_run ≡ Some (0 ∷ [])
-unfolding meaning_but_return
+unfolding meaning_of opcode_table
 count_others = refl
 
 pub count_log : log_of 0 count_run ≡ Some (
     answered (Atomic (Counter 0) 0 Add 1 0) 0 ∷ answered (Atomic (Counter 0) 0 Sub 1 0) 1 ∷ answered (Atomic (Counter 0) 0 Sub 1 0) 0 ∷
     answered (Store (Uav 1) 0 0) 0 ∷ answered (Store (Uav 1) 1 0) 0 ∷ answered (Store (Uav 1) 2 4294967295) 0 ∷ [])
-unfolding meaning_but_return
+unfolding meaning_of opcode_table
 count_log = refl
 
 pub count_ends : ended one_lane count_run ≡ Some (true ∷ [])
-unfolding meaning_but_return
+unfolding meaning_of opcode_table
 count_ends = refl
 
 -- NEGATED SOURCE: 1 less the lane's number shifted to the highest bit.
@@ -240,19 +238,19 @@ abbrev pub negate_run : Option Shares
 negate_run = run negating (dispatch (filled (Uav 0) (0 ∷ 0 ∷ []) ∷ [])) 8 (in_turns 2 two_lanes)
 
 pub negate_words : words_of (Uav 0) negate_run ≡ Some (1 ∷ 2147483649 ∷ [])
-unfolding meaning_but_return
+unfolding meaning_of opcode_table
 negate_words = refl
 
 pub negate_first_log : log_of 0 negate_run ≡ Some (stored 0 1 ∷ [])
-unfolding meaning_but_return
+unfolding meaning_of opcode_table
 negate_first_log = refl
 
 pub negate_second_log : log_of 1 negate_run ≡ Some (stored 1 2147483649 ∷ [])
-unfolding meaning_but_return
+unfolding meaning_of opcode_table
 negate_second_log = refl
 
 pub negate_ends : ended two_lanes negate_run ≡ Some (true ∷ true ∷ [])
-unfolding meaning_but_return
+unfolding meaning_of opcode_table
 negate_ends = refl
 
 -- QUOTIENT BY ZERO: 7 by 0, and 7 by 3.
@@ -267,15 +265,15 @@ abbrev pub divide_run : Option Shares
 divide_run = run dividing (dispatch (filled (Uav 0) (0 ∷ 0 ∷ []) ∷ [])) 8 (in_turns 3 one_lane)
 
 pub divide_words : words_of (Uav 0) divide_run ≡ Some (4294967295 ∷ 2 ∷ [])
-unfolding meaning_but_return
+unfolding meaning_of opcode_table
 divide_words = refl
 
 pub divide_log : log_of 0 divide_run ≡ Some (stored 0 4294967295 ∷ stored 1 2 ∷ [])
-unfolding meaning_but_return
+unfolding meaning_of opcode_table
 divide_log = refl
 
 pub divide_ends : ended one_lane divide_run ≡ Some (true ∷ [])
-unfolding meaning_but_return
+unfolding meaning_of opcode_table
 divide_ends = refl
 
 -- BIT FIELDS AT THE EDGE: one past bit 31 with its sign, and one of 32 bits, which counts as none.
@@ -290,15 +288,15 @@ abbrev pub cut_run : Option Shares
 cut_run = run cutting (dispatch (filled (Uav 0) (0 ∷ 0 ∷ []) ∷ [])) 8 (in_turns 3 one_lane)
 
 pub cut_words : words_of (Uav 0) cut_run ≡ Some (4294967295 ∷ 0 ∷ [])
-unfolding meaning_but_return
+unfolding meaning_of opcode_table
 cut_words = refl
 
 pub cut_log : log_of 0 cut_run ≡ Some (stored 0 4294967295 ∷ stored 1 0 ∷ [])
-unfolding meaning_but_return
+unfolding meaning_of opcode_table
 cut_log = refl
 
 pub cut_ends : ended one_lane cut_run ≡ Some (true ∷ [])
-unfolding meaning_but_return
+unfolding meaning_of opcode_table
 cut_ends = refl
 
 -- STRUCTURED LOAD PAST THE END: of two structures the first lane loads the second, and the second lane what is past them.
@@ -320,21 +318,21 @@ load_run =
     (in_turns 9 two_lanes)
 
 pub load_words : words_of (Uav 0) load_run ≡ Some (5 ∷ 6 ∷ 7 ∷ 8 ∷ 0 ∷ 0 ∷ 0 ∷ 0 ∷ [])
-unfolding meaning_but_return
+unfolding meaning_of opcode_table
 load_words = refl
 
 pub load_first_log : log_of 0 load_run ≡ Some (
     answered (Load (Resource 0) 4) 5 ∷ answered (Load (Resource 0) 5) 6 ∷ answered (Load (Resource 0) 6) 7 ∷ answered (Load (Resource 0) 7) 8 ∷
     stored 0 5 ∷ stored 1 6 ∷ stored 2 7 ∷ stored 3 8 ∷ [])
-unfolding meaning_but_return
+unfolding meaning_of opcode_table
 load_first_log = refl
 
 pub load_second_log : log_of 1 load_run ≡ Some (stored 4 0 ∷ stored 5 0 ∷ stored 6 0 ∷ stored 7 0 ∷ [])
-unfolding meaning_but_return
+unfolding meaning_of opcode_table
 load_second_log = refl
 
 pub load_ends : ended two_lanes load_run ≡ Some (true ∷ true ∷ [])
-unfolding meaning_but_return
+unfolding meaning_of opcode_table
 load_ends = refl
 
 -- RAW STORE AT THE END: of four words one is in the view.
@@ -347,15 +345,15 @@ abbrev pub store_run : Option Shares
 store_run = run storing (dispatch (filled (Uav 0) (0 ∷ 0 ∷ 0 ∷ []) ∷ [])) 8 (in_turns 2 one_lane)
 
 pub store_words : words_of (Uav 0) store_run ≡ Some (0 ∷ 0 ∷ 1 ∷ [])
-unfolding meaning_but_return
+unfolding meaning_of opcode_table
 store_words = refl
 
 pub store_log : log_of 0 store_run ≡ Some (stored 2 1 ∷ [])
-unfolding meaning_but_return
+unfolding meaning_of opcode_table
 store_log = refl
 
 pub store_ends : ended one_lane store_run ≡ Some (true ∷ [])
-unfolding meaning_but_return
+unfolding meaning_of opcode_table
 store_ends = refl
 
 -- WRAPPED ADDRESS: no word at the highest address, nor behind it, is in the view.
@@ -372,15 +370,15 @@ wrap_run =
     (in_turns 5 one_lane)
 
 pub wrap_words : words_of (Uav 0) wrap_run ≡ Some (0 ∷ 0 ∷ 0 ∷ 0 ∷ [])
-unfolding meaning_but_return
+unfolding meaning_of opcode_table
 wrap_words = refl
 
 pub wrap_log : log_of 0 wrap_run ≡ Some (stored 0 0 ∷ stored 1 0 ∷ stored 2 0 ∷ stored 3 0 ∷ [])
-unfolding meaning_but_return
+unfolding meaning_of opcode_table
 wrap_log = refl
 
 pub wrap_ends : ended one_lane wrap_run ≡ Some (true ∷ [])
-unfolding meaning_but_return
+unfolding meaning_of opcode_table
 wrap_ends = refl
 
 -- INDEXED REGISTERS: the last element of x1, and what is past the end.
@@ -397,15 +395,15 @@ abbrev pub index_run : Option Shares
 index_run = run indexing (dispatch (filled (Uav 0) (0 ∷ 0 ∷ []) ∷ [])) 8 (in_turns 3 one_lane)
 
 pub index_words : words_of (Uav 0) index_run ≡ Some (42 ∷ 0 ∷ [])
-unfolding meaning_but_return
+unfolding meaning_of opcode_table
 index_words = refl
 
 pub index_log : log_of 0 index_run ≡ Some (stored 0 42 ∷ stored 1 0 ∷ [])
-unfolding meaning_but_return
+unfolding meaning_of opcode_table
 index_log = refl
 
 pub index_ends : ended one_lane index_run ≡ Some (true ∷ [])
-unfolding meaning_but_return
+unfolding meaning_of opcode_table
 index_ends = refl
 
 -- CONTROL FLOW: the program with a loop and a switch in it.
@@ -413,13 +411,13 @@ abbrev pub turn_run : Option Shares
 turn_run = run turning (dispatch (filled (Uav 0) (0 ∷ []) ∷ [])) 40 (in_turns 5 one_lane)
 
 pub turn_words : words_of (Uav 0) turn_run ≡ Some (2121 ∷ [])
-unfolding meaning_but_return
+unfolding meaning_of opcode_table
 turn_words = refl
 
 pub turn_log : log_of 0 turn_run ≡ Some (stored 0 11 ∷ stored 0 1111 ∷ stored 0 2111 ∷ stored 0 2121 ∷ [])
-unfolding meaning_but_return
+unfolding meaning_of opcode_table
 turn_log = refl
 
 pub turn_ends : ended one_lane turn_run ≡ Some (true ∷ [])
-unfolding meaning_but_return
+unfolding meaning_of opcode_table
 turn_ends = refl

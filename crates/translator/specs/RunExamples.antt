@@ -1,4 +1,5 @@
 -- Two lanes that add their numbers in shared memory, meet at a barrier, and write the sum, under three lists of picks.
+use Rattle.tpf_decode.specs.Profiles.{Base}
 use Rattle.std.specs.Prelude.{◌≡◌, ℕ, zero, suc, nat_eq, if◌then◌else◌, Bool, true, false, List, [], ◌∷◌, Option, Some, None, option_map, refl}
 use Rattle.word_base.specs.declared.event.Act.TheVariants.{Add}
 use Rattle.word_base.specs.declared.event.Event.TheVariants.{Load, Store, Atomic, Barrier}
@@ -6,6 +7,7 @@ use Rattle.word_base.specs.declared.event.Room.{Room}
 use Rattle.word_base.specs.declared.event.Room.TheVariants.{Uav, Shared}
 use Rattle.word_base.specs.declared.event.Scope.TheVariants.{Group}
 use Rattle.word_base.specs.Lanes.{Turn, Silent, Asks, Ends, Wrong}
+use Rattle.word_base.specs.Settings.{axes, Setting, Axes}
 use Rattle.tpf_program.specs.declared.declaration.Declaration.TheVariants as declaration
 use Rattle.tpf_program.specs.declared.declaration.SharedKind.TheVariants as shared
 use Rattle.tpf_program.specs.declared.declaration.ViewKind.TheVariants as view
@@ -15,7 +17,7 @@ use Rattle.tpf_decode.specs.declared.argument.Kind.TheVariants as kind
 use Rattle.tpf_decode.specs.declared.argument.Select.TheVariants.{Bare, Mask, Swizzle}
 use Rattle.tpf_program.specs.Bytecode as bytecode
 use Rattle.tpf_program.specs.Declarations.{threads_in}
-use Rattle.tpf_program.specs.Opcodes.{meaning_but_return}
+use Rattle.tpf_decode.specs.Opcodes.{meaning_of, opcode_table}
 use Rattle.tpf_program.specs.Program.{Shader}
 use Rattle.tpf_program.specs.Spelling.{nothing}
 use Rattle.tpf_program.specs.ExampleParts.{slot_of, literal, r0, r0_to, instruction, bare, program_of}
@@ -57,6 +59,11 @@ abbrev pub run_in : {C S : Type 0} → Machine C → ℕ → (ℕ → S → Turn
 run_in m bound step [] s = Some s.shared
 run_in m bound step (lane ∷ picks) s = run_on (run_in m bound step picks) (picked (m.is_idle s.shared lane) m bound step s lane)
 
+-- The run of a dispatch whose lanes start so and make such steps.
+abbrev pub run_by : {S : Type 0} → Axes → (Setting → S → Turn S) → (Setting → S) → Dispatch → ℕ → List ℕ → Option Shares
+run_by threads step start d bound picks =
+    run_in (shared_machine threads) bound (λ l. step (setting_of threads d l)) picks (stand (λ l. start (setting_of threads d l)) (at_start d))
+
 -- THE PROGRAM: a u# of bytes, one word of shared memory, a group of two lanes.
 abbrev pub flat : Argument
 flat = slot_of kind.FlatId 0 Bare
@@ -84,12 +91,10 @@ views (Uav slot) = where_zero slot (0 ∷ 0 ∷ [])
 views other = []
 
 abbrev pub one_group : Dispatch
-one_group = record { x = 1; y = 1; z = 1; constants = λ slot. []; memory = record { views = views; shared = λ group slot. where_zero slot (0 ∷ []) } }
+one_group = record { groups = axes 1 1 1; constants = λ slot. []; memory = record { views = views; shared = λ group slot. where_zero slot (0 ∷ []) } }
 
 abbrev pub run_of : List ℕ → Option Shares
-run_of picks =
-    run_in (shared_machine (threads_in summing.declarations)) 8 (λ l. bytecode.step summing (setting_of summing one_group l)) picks
-    (stand (λ l. bytecode.start) (at_start one_group))
+run_of picks = run_by (threads_in summing.declarations) (bytecode.step Base summing) (λ setting. bytecode.start) one_group 8 picks
 
 -- the words of u0 behind a run
 abbrev pub written_by : Option Shares → Option (List ℕ)
@@ -106,15 +111,15 @@ abbrev pub first_waits : List ℕ
 first_waits = 0 ∷ 0 ∷ 0 ∷ 0 ∷ in_turns
 
 pub sum_in_turns : written_by (run_of in_turns) ≡ Some (1 ∷ 1 ∷ [])
-unfolding meaning_but_return
+unfolding meaning_of opcode_table
 sum_in_turns = refl
 
 pub sum_second_first : written_by (run_of second_first) ≡ Some (1 ∷ 1 ∷ [])
-unfolding meaning_but_return
+unfolding meaning_of opcode_table
 sum_second_first = refl
 
 pub sum_first_waits : written_by (run_of first_waits) ≡ Some (1 ∷ 1 ∷ [])
-unfolding meaning_but_return
+unfolding meaning_of opcode_table
 sum_first_waits = refl
 
 -- A lane's log; after four picks of the first lane it waits, and after the whole list both have ended.
@@ -123,13 +128,13 @@ pub log_of_second : option_map (λ c. c.log 1) (run_of in_turns) ≡ Some (
     record { event = Barrier Group (record { buffers = false; shared = true }); answer = 0 } ∷
     record { event = Load (Shared 0) 0; answer = 1 } ∷
     record { event = Store (Uav 0) 1 1; answer = 0 } ∷ [])
-unfolding meaning_but_return
+unfolding meaning_of opcode_table
 log_of_second = refl
 
 pub waits_alone : option_map (λ c. c.waits 0) (run_of (0 ∷ 0 ∷ 0 ∷ 0 ∷ [])) ≡ Some true
-unfolding meaning_but_return
+unfolding meaning_of opcode_table
 waits_alone = refl
 
 pub both_end : option_map (λ c. c.has_ended 1) (run_of first_waits) ≡ Some true
-unfolding meaning_but_return
+unfolding meaning_of opcode_table
 both_end = refl

@@ -1,30 +1,36 @@
 -- The runs of a program and of a module that was translated from it.
 use Rattle.std.specs.Prelude.{ℕ, ◌↔◌, List}
-use Rattle.word_base.specs.Lanes.{NeverWrong}
-use Rattle.word_base.specs.Settings.{Setting}
+use Rattle.word_base.specs.Lanes.{Turn, NeverWrong}
+use Rattle.word_base.specs.Settings.{Setting, Axes}
+use Rattle.tpf_decode.specs.Profiles.{Profile}
 use Rattle.tpf_program.specs.Declarations.{threads_in}
 use Rattle.tpf_program.specs.Program.{Shader}
 use Rattle.tpf_program.specs.Bytecode as bytecode
 use Rattle.spirv_words.specs.Text.{Module}
+use Rattle.spirv_words.specs.Globals.{Places}
 use Rattle.spirv_words.specs.Lane as lane
 use Rattle.translator.specs.Bindings.{Binding, places_of, Fits}
 use Rattle.translator.specs.Dispatch.{Dispatch, IsDispatch, AreLanes, Shares, setting_of, at_start, shared_machine}
 use Rattle.translator.specs.Runs.{HasValue}
 
--- the run of a program's dispatch over these picks has this value
-abbrev pub ProgramRuns : Shader → Dispatch → List ℕ → Shares → Type 0
-ProgramRuns p d picks value =
-    HasValue (shared_machine (threads_in p.declarations)) (λ l. bytecode.step p (setting_of p d l)) (λ l. bytecode.start) (at_start d) picks value
+-- The run over these picks has this value. It is the run of a dispatch to groups of threads whose lanes, each under its setting, start so
+-- and make such steps.
+abbrev pub RunsTo : {S : Type 0} → Axes → (Setting → S → Turn S) → (Setting → S) → Dispatch → List ℕ → Shares → Type 0
+RunsTo threads step start d picks value =
+    HasValue (shared_machine threads) (λ l. step (setting_of threads d l)) (λ l. start (setting_of threads d l)) (at_start d) picks value
 
--- and the run of a module's lanes over the same dispatch
-abbrev pub ModuleRuns : Shader → List Binding → Module → Dispatch → List ℕ → Shares → Type 0
-ModuleRuns p bindings m d picks value =
-    HasValue (shared_machine (threads_in p.declarations))
-    (λ l. lane.lane m (places_of p bindings) (setting_of p d l)) (λ l. lane.start m (places_of p bindings) (setting_of p d l)) (at_start d) picks value
+-- of a program's lanes, and of a module's over the same dispatch
+abbrev pub ProgramRuns : Profile → Shader → Dispatch → List ℕ → Shares → Type 0
+ProgramRuns profile p d picks value = RunsTo (threads_in p.declarations) (bytecode.step profile p) (λ setting. bytecode.start) d picks value
+
+abbrev pub ModuleRuns : Axes → Places → Module → Dispatch → List ℕ → Shares → Type 0
+ModuleRuns threads places m d picks value = RunsTo threads (lane.lane m places) (lane.start m places) d picks value
 
 -- For each dispatch and list of picks the two runs have the same values, so that one has a value exactly when the other has; and under
 -- no list of answers is a lane of the module wrong.
-pub record SameRuns (p : Shader) (bindings : List Binding) (m : Module) : Type 0 where
-  pub same : (d : Dispatch) (picks : List ℕ) (value : Shares) → IsDispatch p bindings d → AreLanes p d picks → ProgramRuns p d picks value ↔ ModuleRuns p bindings m d picks value
+pub record SameRuns (profile : Profile) (p : Shader) (bindings : List Binding) (m : Module) : Type 0 where
+  pub same : (d : Dispatch) (picks : List ℕ) (value : Shares)
+      → IsDispatch (threads_in p.declarations) (Fits p bindings) d → AreLanes (threads_in p.declarations) d picks
+      → ProgramRuns profile p d picks value ↔ ModuleRuns (threads_in p.declarations) (places_of bindings) m d picks value
   pub never_wrong : (setting : Setting) → Fits p bindings setting
-      → NeverWrong (lane.lane m (places_of p bindings) setting) (lane.start m (places_of p bindings) setting)
+      → NeverWrong (lane.lane m (places_of bindings) setting) (lane.start m (places_of bindings) setting)

@@ -9,7 +9,8 @@ use Rattle.tpf_program.specs.Declarations.{threads_in}
 use Rattle.tpf_program.specs.Extents.{is_resource, is_uav, steps_counter, shared_extent}
 use Rattle.tpf_program.specs.Sizes.{vectors_of}
 use Rattle.tpf_program.specs.Program.{Shader}
-use Rattle.spirv_words.specs.Sections.{Group, sized}
+use Rattle.word_base.specs.Settings.{Axes}
+use Rattle.spirv_words.specs.BuiltIn.{GlobalInvocationId, WorkgroupId, LocalInvocationId, LocalInvocationIndex}
 use Rattle.spirv_words.specs.Variables.{WantedBuffer, WantedUniform, Wanted}
 use Rattle.translator.specs.Bindings.{Register, Constant, Resource, Uav as uav, Counter, Place, Bound, Push, Binding, shared_slots}
 
@@ -53,12 +54,12 @@ push_words p (b ∷ rest) = max (push_end p b.register b.place) (push_words p re
 abbrev pub some_words : ℕ → Option ℕ
 some_words n = if nat_eq n 0 then None else Some n
 
--- the built-in of a thread id: GlobalInvocationId, WorkgroupId, LocalInvocationId, LocalInvocationIndex
+-- the built-in of a thread id
 abbrev pub built_in_of : Kind → Option ℕ
-built_in_of ThreadId = Some 28
-built_in_of GroupId = Some 26
-built_in_of IdInGroup = Some 27
-built_in_of FlatId = Some 29
+built_in_of ThreadId = Some GlobalInvocationId
+built_in_of GroupId = Some WorkgroupId
+built_in_of IdInGroup = Some LocalInvocationId
+built_in_of FlatId = Some LocalInvocationIndex
 built_in_of kind = None
 
 abbrev pub input_of : Declaration → Option ℕ
@@ -75,5 +76,5 @@ wanted_of p bindings = record {
 }
 
 -- the size of a program's thread group
-abbrev pub group_of : Shader → Group
-group_of p = sized (threads_in p.declarations).x (threads_in p.declarations).y (threads_in p.declarations).z
+abbrev pub group_of : Shader → Axes
+group_of p = threads_in p.declarations

@@ -1,58 +1,74 @@
 ghost use Rattle.std.specs.Prelude.{◌≡◌, ℕ, ◌≤◌, ◌++◌, ◌∷◌, [], Some, slice_get, take, drop, IfOk, OnOk};
+ghost use Rattle.word_base.specs.Words.{AreWords};
 ghost use Rattle.spirv_words.specs.Text.{header_of, words_of_code, words_of_instr};
-ghost use Rattle.tpf_program.specs.Declarations.{Threads};
+ghost use Rattle.word_base.specs.Settings.{Axes, axes};
 ghost use Rattle.translator.specs.declared.names.Found.{Found as Entry};
-ghost use Rattle.translator.specs.Emitted.{in_code};
 ghost use Rattle.translator.specs.Found.{id_of};
 ghost use Rattle.translator.specs.Lines.{code_of, instr_of};
 ghost use Rattle.translator.specs.Parts.{array, arrays, closing, constant, constants, front, length_name, local, locals, module_of, opening};
 
 use crate::emission::Emitter;
-use crate::group::ThreadGroup;
 use crate::line::Line;
 use crate::names::{Found, Name};
 use crate::naming::first_id;
-use spirv_words::put;
+use spirv_words::{model, op, put, storage_class};
 use std::alloc::Global;
+use tpf_program::ThreadGroup;
 use word_base::NoMemory;
 
 /// The header of a module of SPIR-V 1.3 whose ids are below a bound.
 fn header(alloc: Global, bound: u32) -> Result<Vec<u32>, NoMemory>
     ensures { IfOk result (λ w. w.items ≡ 0x07230203 ∷ 0x00010300 ∷ 0 ∷ bound ∷ 0 ∷ []) }
 {
-    Vec::from_slice(alloc, &[0x07230203, 0x00010300, 0, bound, 0]).map_err(|_| NoMemory)
+    Vec::from_slice(
+        alloc,
+        &[model::MAGIC_NUMBER, model::VERSION_1_3, 0, bound, 0],
+    )
+    .map_err(|_| NoMemory)
 }
 
 /// Writes the capability, the memory model and the entry point with its group of threads.
 fn put_entry(words: &mut Vec<u32>, threads: ThreadGroup) -> Result<(), NoMemory>
-    ensures { OnOk result (words.new.items ≡ words.old.items ++ words_of_code (take 4 (front (in_code threads)))) }
+    ensures { OnOk result (words.new.items ≡ words.old.items ++ words_of_code (take 4 (front (axes threads.x threads.y threads.z)))) }
 {
-    put(words, CAPABILITY, &[1])?;
-    put(words, MEMORY_MODEL, &[0, 1])?;
-    put(words, ENTRY_POINT, &[5, 1, 0x6E69616D, 0])?;
+    put(words, op::CAPABILITY, &[model::SHADER])?;
+    put(words, op::MEMORY_MODEL, &[model::LOGICAL, model::GLSL450])?;
     put(
         words,
-        EXECUTION_MODE,
-        &[1, 17, threads.x, threads.y, threads.z],
+        op::ENTRY_POINT,
+        &[model::GL_COMPUTE, MAIN, MAIN_TEXT, 0],
+    )?;
+    put(
+        words,
+        op::EXECUTION_MODE,
+        &[MAIN, model::LOCAL_SIZE, threads.x, threads.y, threads.z],
     )?;
     Ok(())
 }
 
 /// Writes the types of the function, of words and of pointers to them.
 fn put_types(words: &mut Vec<u32>) -> Result<(), NoMemory>
-    ensures { (t : Threads) → OnOk result (words.new.items ≡ words.old.items ++ words_of_code (drop 4 (front t))) }
+    ensures { (t : Axes) → OnOk result (words.new.items ≡ words.old.items ++ words_of_code (drop 4 (front t))) }
 {
-    put(words, TYPE_VOID, &[2])?;
-    put(words, TYPE_FUNCTION, &[3, 2])?;
-    put(words, TYPE_INT, &[5, 32, 0])?;
-    put(words, TYPE_POINTER, &[6, 7, 5])?;
-    put(words, TYPE_POINTER, &[7, 4, 5])?;
+    put(words, op::TYPE_VOID, &[VOID])?;
+    put(words, op::TYPE_FUNCTION, &[FUNCTION, VOID])?;
+    put(words, op::TYPE_INT, &[WORD, 32, 0])?;
+    put(
+        words,
+        op::TYPE_POINTER,
+        &[PLACE, storage_class::FUNCTION, WORD],
+    )?;
+    put(
+        words,
+        op::TYPE_POINTER,
+        &[SHARED_PLACE, storage_class::WORKGROUP, WORD],
+    )?;
     Ok(())
 }
 
 /// Writes what stands in front of constants.
 fn put_front(words: &mut Vec<u32>, threads: ThreadGroup) -> Result<(), NoMemory>
-    ensures { OnOk result (words.new.items ≡ words.old.items ++ words_of_code (front (in_code threads))) }
+    ensures { OnOk result (words.new.items ≡ words.old.items ++ words_of_code (front (axes threads.x threads.y threads.z))) }
 {
     put_entry(words, threads)?;
     put_types(words)?;
@@ -64,7 +80,7 @@ fn put_constant(words: &mut Vec<u32>, found: Found) -> Result<(), NoMemory>
     ensures { OnOk result (words.new.items ≡ words.old.items ++ words_of_code (constant found.name found.id)) }
 {
     match found.name {
-        Name::Constant(word) => put(words, CONSTANT, &[5, found.id, word]),
+        Name::Constant(word) => put(words, op::CONSTANT, &[WORD, found.id, word]),
         Name::Scratch(_) => Ok(()),
         Name::Registers { .. } => Ok(()),
         Name::Shared { .. } => Ok(()),
@@ -91,14 +107,22 @@ fn put_array(words: &mut Vec<u32>, length: u32, found: Found) -> Result<(), NoMe
     let id = found.id;
     match found.name {
         Name::Registers { .. } => {
-            put(words, TYPE_ARRAY, &[id - 3, 5, length])?;
-            put(words, TYPE_POINTER, &[id - 2, 7, id - 3])?;
-            put(words, CONSTANT_NULL, &[id - 3, id - 1])
+            put(words, op::TYPE_ARRAY, &[id - 3, WORD, length])?;
+            put(
+                words,
+                op::TYPE_POINTER,
+                &[id - 2, storage_class::FUNCTION, id - 3],
+            )?;
+            put(words, op::CONSTANT_NULL, &[id - 3, id - 1])
         }
         Name::Shared { .. } => {
-            put(words, TYPE_ARRAY, &[id - 2, 5, length])?;
-            put(words, TYPE_POINTER, &[id - 1, 4, id - 2])?;
-            put(words, VARIABLE, &[id - 1, id, 4])
+            put(words, op::TYPE_ARRAY, &[id - 2, WORD, length])?;
+            put(
+                words,
+                op::TYPE_POINTER,
+                &[id - 1, storage_class::WORKGROUP, id - 2],
+            )?;
+            put(words, op::VARIABLE, &[id - 1, id, storage_class::WORKGROUP])
         }
         Name::Constant(_) => Ok(()),
         Name::Scratch(_) => Ok(()),
@@ -112,8 +136,16 @@ fn put_local(words: &mut Vec<u32>, zero: u32, found: Found) -> Result<(), NoMemo
 {
     let id = found.id;
     match found.name {
-        Name::Registers { .. } => put(words, VARIABLE, &[id - 2, id, 7, id - 1]),
-        Name::Scratch(_) => put(words, VARIABLE, &[6, id, 7, zero]),
+        Name::Registers { .. } => put(
+            words,
+            op::VARIABLE,
+            &[id - 2, id, storage_class::FUNCTION, id - 1],
+        ),
+        Name::Scratch(_) => put(
+            words,
+            op::VARIABLE,
+            &[PLACE, id, storage_class::FUNCTION, zero],
+        ),
         Name::Constant(_) => Ok(()),
         Name::Shared { .. } => Ok(()),
     }
@@ -124,21 +156,27 @@ fn put_line(words: &mut Vec<u32>, line: Line) -> Result<(), NoMemory>
     ensures { OnOk result (words.new.items ≡ words.old.items ++ words_of_instr (instr_of line)) }
 {
     match line {
-        Line::Load { result, pointer } => put(words, LOAD, &[5, result, pointer]),
-        Line::Sum { result, a, b } => put(words, SUM, &[5, result, a, b]),
+        Line::Load { result, pointer } => put(words, op::LOAD, &[WORD, result, pointer]),
+        Line::Sum { result, a, b } => put(words, op::I_ADD, &[WORD, result, a, b]),
         Line::Point {
             result,
             array,
             index,
-        } => put(words, ACCESS_CHAIN, &[6, result, array, index]),
+        } => put(words, op::ACCESS_CHAIN, &[PLACE, result, array, index]),
         Line::PointShared {
             result,
             array,
             index,
             ..
-        } => { put(words, ACCESS_CHAIN, &[7, result, array, index]) }
-        Line::Store { pointer, value } => put(words, STORE, &[pointer, value]),
-        Line::StoreShared { pointer, value, .. } => put(words, STORE, &[pointer, value]),
+        } => {
+            put(
+                words,
+                op::ACCESS_CHAIN,
+                &[SHARED_PLACE, result, array, index],
+            )
+        }
+        Line::Store { pointer, value } => put(words, op::STORE, &[pointer, value]),
+        Line::StoreShared { pointer, value, .. } => put(words, op::STORE, &[pointer, value]),
     }
 }
 
@@ -190,17 +228,22 @@ fn put_lines(words: &mut Vec<u32>, lines: &[Line]) -> Result<(), NoMemory>
 fn put_opening(words: &mut Vec<u32>) -> Result<(), NoMemory>
     ensures { OnOk result (words.new.items ≡ words.old.items ++ words_of_code opening) }
 {
-    put(words, FUNCTION, &[2, 1, 0, 3])?;
-    put(words, LABEL, &[4])
+    put(words, op::FUNCTION, &[VOID, MAIN, 0, FUNCTION])?;
+    put(words, op::LABEL, &[BLOCK])
 }
 
 /// Writes the return and the function's end.
 fn put_closing(words: &mut Vec<u32>) -> Result<(), NoMemory>
     ensures { OnOk result (words.new.items ≡ words.old.items ++ words_of_code closing) }
 {
-    put(words, RETURN, &[])?;
-    put(words, FUNCTION_END, &[])
+    put(words, op::RETURN, &[])?;
+    put(words, op::FUNCTION_END, &[])
 }
+
+/// That the words of a slice are words, for the proof of a caller. It does nothing when it runs.
+fn word_laws(words: &[u32])
+    ensures { AreWords words.now }
+{}
 
 /// The words of the module of an emitter's names and lines.
 ///
@@ -210,7 +253,9 @@ pub(crate) fn finish(
     out: &Emitter,
     threads: ThreadGroup,
 ) -> Result<Vec<u32>, NoMemory>
-    ensures { IfOk result (λ w. w.items ≡ header_of (module_of (in_code threads) out.now.names.items out.now.next out.now.lines.items) ++ words_of_code (module_of (in_code threads) out.now.names.items out.now.next out.now.lines.items).code) }
+    ensures words { IfOk result (λ w. AreWords w.items) }
+    ensures text { let m = module_of (axes threads.x threads.y threads.z) out.now.names.items out.now.next out.now.lines.items in
+        IfOk result (λ w. w.items ≡ header_of m ++ words_of_code m.code) }
 {
     let mut words = header(alloc, out.next)?;
     put_front(&mut words, threads)?;
@@ -220,45 +265,30 @@ pub(crate) fn finish(
     put_locals(&mut words, &out.names)?;
     put_lines(&mut words, &out.lines)?;
     put_closing(&mut words)?;
+    word_laws(&words);
     Ok(words)
 }
 
-const CAPABILITY: u32 = 17;
+/// The id of the function `main`.
+const MAIN: u32 = 1;
 
-const MEMORY_MODEL: u32 = 14;
+/// The id of the type void.
+const VOID: u32 = 2;
 
-const ENTRY_POINT: u32 = 15;
+/// The id of the function's type.
+const FUNCTION: u32 = 3;
 
-const EXECUTION_MODE: u32 = 16;
+/// The id of the label of the function's block.
+const BLOCK: u32 = 4;
 
-const TYPE_VOID: u32 = 19;
+/// The id of the type of words.
+const WORD: u32 = 5;
 
-const TYPE_INT: u32 = 21;
+/// The id of the type of pointers to words of the lane.
+const PLACE: u32 = 6;
 
-const TYPE_ARRAY: u32 = 28;
+/// The id of the type of pointers to words of shared memory.
+const SHARED_PLACE: u32 = 7;
 
-const TYPE_POINTER: u32 = 32;
-
-const TYPE_FUNCTION: u32 = 33;
-
-const CONSTANT: u32 = 43;
-
-const CONSTANT_NULL: u32 = 46;
-
-const FUNCTION: u32 = 54;
-
-const FUNCTION_END: u32 = 56;
-
-const VARIABLE: u32 = 59;
-
-const LOAD: u32 = 61;
-
-const STORE: u32 = 62;
-
-const ACCESS_CHAIN: u32 = 65;
-
-const SUM: u32 = 128;
-
-const LABEL: u32 = 248;
-
-const RETURN: u32 = 253;
+/// The text `main`, which a word 0 ends.
+const MAIN_TEXT: u32 = 0x6E69616D;

@@ -1,8 +1,10 @@
+ghost use Rattle.tpf_decode.specs.Profiles.{Base};
 ghost use Rattle.std.specs.Prelude.{◌≡◌, ℕ, List, [], ◌∷◌, ◌++◌, IsTrue};
 ghost use Rattle.std.specs.Prelude.{Some};
 ghost use Rattle.word_base.specs.Lanes.{Turn, Standing, Meets};
 ghost use Rattle.word_base.specs.Settings.{Setting};
 ghost use Rattle.tpf_program.specs.Bytecode as bytecode;
+ghost use Rattle.word_base.specs.Settings.{Axes};
 ghost use Rattle.tpf_program.specs.Declarations.{threads_in};
 ghost use Rattle.spirv_words.specs.Text.{Module};
 ghost use Rattle.spirv_words.specs.Globals.{Places};
@@ -12,12 +14,14 @@ ghost use Rattle.tpf_program.specs.Bytecode.{State};
 ghost use Rattle.tpf_program.specs.Program.{Shader};
 ghost use Rattle.tpf_program.specs.StraightLine.{returns};
 ghost use Rattle.spirv_words.specs.Smallest.{smallest};
-ghost use Rattle.translator.specs.Bindings.{Binding, places_of};
-ghost use Rattle.translator.specs.Dispatch.{Dispatch, Shares, IsDispatch, setting_of, at_start, shared_machine};
+ghost use Rattle.translator.specs.Bindings.{Binding, Fits};
+ghost use Rattle.translator.specs.Dispatch.{Dispatch, Shares, IsDispatch};
 ghost use Rattle.translator.specs.Runs.{Machine, HasValue, Leads};
-ghost use Rattle.translator.specs.RunExamples.{summing, one_group, in_turns, run_in, stand};
+ghost use Rattle.translator.specs.RunExamples.{summing, one_group, in_turns, run_by};
 ghost use Rattle.translator.specs.SameRuns.{SameRuns, ProgramRuns, ModuleRuns};
-ghost use Rattle.translator.specs.ShapeExamples.{u0_bound};
+ghost use Rattle.translator.specs.ModuleShape.{HasShape};
+ghost use Rattle.translator.specs.ShapeExamples.{u0_bound, storing, hiding};
+ghost use Rattle.translator.specs.WantedExamples.{one_buffer, b0_bound, b0_pushed, with_buffer};
 ghost use Rattle.translator.specs.WrongExamples.{loud_in};
 
 /// What holds of runs over picks, for the proofs of callers. It does nothing when it runs.
@@ -37,25 +41,28 @@ pub fn run_laws()
 /// What holds of whole dispatches, for the proofs of callers. It does nothing when it runs.
 ///
 /// A program that returns at once has the runs of the module that does, under every dispatch and
-/// list of picks; and there is a dispatch of another program whose run has a value.
-#[tactic(auto, using(crate::proofs::Summed::is_dispatch))]
+/// list of picks; there is a dispatch of another program whose run has a value, and one with a
+/// constant buffer, at a descriptor or in push constants.
+#[tactic(auto, using(crate::proofs::Summed::is_dispatch, crate::proofs::Buffered::at_descriptor, crate::proofs::Buffered::in_push_words))]
 pub fn dispatch_laws()
-    ensures same { (x y z : ℕ) (p : Shader) (bindings : List Binding) (i : Spelled) → p.instructions ≡ i ∷ [] → IsTrue (returns i) → SameRuns p bindings (smallest 0x00010300 x y z) }
-    ensures dispatch { IsDispatch summing u0_bound one_group }
-    ensures run { (value : Shares) × ProgramRuns summing one_group in_turns value }
+    ensures same { (x y z : ℕ) (p : Shader) (bindings : List Binding) (i : Spelled) → p.instructions ≡ i ∷ [] → IsTrue (returns i) → SameRuns Base p bindings (smallest 0x00010300 x y z) }
+    ensures at_descriptor { IsDispatch (threads_in one_buffer.declarations) (Fits one_buffer b0_bound) with_buffer }
+    ensures in_push_words { IsDispatch (threads_in one_buffer.declarations) (Fits one_buffer b0_pushed) with_buffer }
+    ensures dispatch { IsDispatch (threads_in summing.declarations) (Fits summing u0_bound) one_group }
+    ensures run { (value : Shares) × ProgramRuns Base summing one_group in_turns value }
 {}
 
 /// What turns and runs that are found by computation say of lanes and dispatches, for the examples.
 /// It does nothing when it runs.
+///
+/// And a module that stores through a pointer from a struct has not the shape of a program.
+#[tactic(auto, using(crate::proofs::ShapeRefuted::refuted))]
 pub fn example_laws()
     ensures turn { (m : Module) (places : Places) (setting : Setting) (n : ℕ) (turn : Turn (Standing lane.State))
         → loud_in n (lane.lane m places setting) (lane.start m places setting) ≡ Some turn → Meets (lane.lane m places setting) (lane.start m places setting) turn }
-    ensures module_run { (p : Shader) (bindings : List Binding) (m : Module) (d : Dispatch) (n : ℕ) (picks : List ℕ) (value : Shares)
-        → run_in (shared_machine (threads_in p.declarations)) n (λ l. lane.lane m (places_of p bindings) (setting_of p d l)) picks
-        (stand (λ l. lane.start m (places_of p bindings) (setting_of p d l)) (at_start d)) ≡ Some value
-        → ModuleRuns p bindings m d picks value }
+    ensures module_run { (threads : Axes) (places : Places) (m : Module) (d : Dispatch) (n : ℕ) (picks : List ℕ) (value : Shares)
+        → run_by threads (lane.lane m places) (lane.start m places) d n picks ≡ Some value → ModuleRuns threads places m d picks value }
+    ensures hidden { HasShape Base storing u0_bound hiding → ⊥ }
     ensures program_run { (p : Shader) (d : Dispatch) (n : ℕ) (picks : List ℕ) (value : Shares)
-        → run_in (shared_machine (threads_in p.declarations)) n (λ l. bytecode.step p (setting_of p d l)) picks
-        (stand (λ l. bytecode.start) (at_start d)) ≡ Some value
-        → ProgramRuns p d picks value }
+        → run_by (threads_in p.declarations) (bytecode.step Base p) (λ setting. bytecode.start) d n picks ≡ Some value → ProgramRuns Base p d picks value }
 {}

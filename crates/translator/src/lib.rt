@@ -10,7 +10,6 @@
 mod emission;
 mod expressions;
 mod finish;
-mod group;
 mod laws;
 mod line;
 mod lowering;

@@ -1,23 +1,14 @@
-ghost use Rattle.std.specs.Prelude.{◌≡◌, ℕ, ◌+◌, ◌-◌, ◌*◌, ◌<◌, ◌≤◌, ◌^◌, IsTrue, length, IfOk, OnOk};
+ghost use Rattle.std.specs.Prelude.{◌≡◌, ℕ, ◌+◌, ◌-◌, ◌*◌, ◌<◌, ◌≤◌, ◌^◌, IsTrue, length, nat_eq, IfOk, OnOk};
 ghost use Rattle.tpf_program.specs.Sizes.{temps_of};
 ghost use Rattle.tpf_program.specs.Values.{of_four, selected, value};
 ghost use Rattle.tpf_program.specs.Writes.{in_mask};
-ghost use Rattle.translator.specs.Raised.{At, Extends, IsComponent, Raises, SelectComponents, is_arithmetic, is_literal, is_quiet, is_raised, is_register, is_source};
+ghost use Rattle.translator.specs.Raised.{At, Extends, IsComponent, IsRaised, Raises, SelectComponents, acts_on_one, does_nothing, stores_raw, is_arithmetic, is_literal, is_nop, is_quiet, is_raised, is_register, is_source};
 ghost use Rattle.translator.specs.Raising.{Finds, Sets, Stores, Writes, masked_from, word_of};
 
 use crate::tree::{Expr, Space, Stmt, Tree};
-use tpf_decode::{Argument, Kind, Select};
+use tpf_decode::{Argument, Kind, Meaning, Select, instruction_meaning};
 use tpf_program::{Instruction, Program};
 use word_base::NoMemory;
-
-/// The opcode of `mov`.
-const MOV: u32 = 54;
-
-/// The opcode of `nop`.
-const NOP: u32 = 58;
-
-/// The opcode of `store_raw`.
-const STORE_RAW: u32 = 166;
 
 /// Adds the statement of a `nop`, a `mov`, an `iadd` or a `store_raw`, and returns its place.
 ///
@@ -39,7 +30,7 @@ pub(crate) fn raise(tree: &mut Tree, program: &Program, i: u32) -> Result<u32, N
     if is_quiet(&instruction) {
         return tree.statement(Stmt::Nothing);
     }
-    if instruction.code == STORE_RAW {
+    if is_store(&instruction) {
         return store_from(tree, &instruction, 0);
     }
     let first = set_from(tree, &instruction, 0, 0)?;
@@ -142,7 +133,7 @@ fn left_in(tree: &mut Tree, i: &Instruction, c: u32) -> Result<u32, NoMemory>
     ensures statements { OnOk result (tree.new.statements.items ≡ tree.old.statements.items) }
 {
     let a = source(tree, &i.o1, c)?;
-    if i.code == MOV {
+    if is_move(i) {
         return Ok(a);
     }
     let b = source(tree, &i.o2, c)?;
@@ -211,9 +202,43 @@ fn is_written(select: Select, c: u32) -> bool
 
 /// Whether an instruction does nothing: a `nop`, and one that writes to the null operand.
 fn is_quiet(i: &Instruction) -> bool
+    requires { IsRaised i.now }
     ensures { result ≡ is_quiet i.now }
 {
-    i.code == NOP || matches!(i.o0.kind, Kind::Null)
+    is_nop(i) || matches!(i.o0.kind, Kind::Null)
+}
+
+/// Whether an instruction is a `nop`.
+fn is_nop(i: &Instruction) -> bool
+    requires { IsRaised i.now }
+    ensures { result ≡ is_nop i.now }
+{
+    match instruction_meaning(i.code) {
+        Some(meaning) => does_nothing(meaning),
+        None => false,
+    }
+}
+
+/// Whether an instruction is a `store_raw`.
+fn is_store(i: &Instruction) -> bool
+    requires { IsRaised i.now }
+    ensures { result ≡ nat_eq i.now.code 166 }
+{
+    match instruction_meaning(i.code) {
+        Some(meaning) => stores_raw(meaning),
+        None => false,
+    }
+}
+
+/// Whether an instruction of arithmetic is a `mov`.
+fn is_move(i: &Instruction) -> bool
+    requires { IsTrue (is_arithmetic 4096 i.now) }
+    ensures { result ≡ nat_eq i.now.code 54 }
+{
+    match instruction_meaning(i.code) {
+        Some(meaning) => acts_on_one(meaning),
+        None => false,
+    }
 }
 
 /// Whether an operand is an immediate.
@@ -221,4 +246,25 @@ fn is_literal(kind: Kind) -> bool
     ensures { result ≡ is_literal kind }
 {
     matches!(kind, Kind::Immediate)
+}
+
+/// Whether an instruction with that meaning is a `nop`.
+fn does_nothing(meaning: Meaning) -> bool
+    ensures { result ≡ does_nothing meaning }
+{
+    matches!(meaning, Meaning::Nop)
+}
+
+/// Whether an instruction with that meaning is a `store_raw`.
+fn stores_raw(meaning: Meaning) -> bool
+    ensures { result ≡ stores_raw meaning }
+{
+    matches!(meaning, Meaning::StoreRaw)
+}
+
+/// Whether an instruction with that meaning acts on one word of each component.
+fn acts_on_one(meaning: Meaning) -> bool
+    ensures { result ≡ acts_on_one meaning }
+{
+    matches!(meaning, Meaning::One(_))
 }

@@ -4,7 +4,6 @@ ghost use Rattle.translator.specs.Input.{IsBroken};
 ghost use Rattle.translator.specs.Means.{Means};
 
 use crate::finish::finish;
-use crate::group::threads_of;
 use crate::lowering::lower;
 use dxbc_container::{container_laws, shex};
 use std::alloc::Global;
@@ -44,7 +43,7 @@ pub fn translate(alloc: Global, bytes: &[u8]) -> Result<Vec<u32>, Halt>
         Ok(body) => body,
         Err(_) => return Err(Halt::NoMemory),
     };
-    match finish(alloc, &body, threads_of(&program)) {
+    match finish(alloc, &body, program.threads()) {
         Ok(words) => Ok(words),
         Err(_) => Err(Halt::NoMemory),
     }

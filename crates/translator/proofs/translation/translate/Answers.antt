@@ -1,5 +1,5 @@
 use Rattle.word_base.specs.Words.{words_of}
-use Rattle.translator.specs.Emitted.{in_code}
+use Rattle.word_base.specs.Settings.{axes}
 use Rattle.dxbc_container.specs.Chunks.{content_of}
 use Rattle.translator.proofs.Answered.{can_lower, meant, sound, no_refusal, refused_container, refused_program}
 use Rattle.translator.proofs.translation.translate.Goals as goal
@@ -17,9 +17,9 @@ lower-requires c = can_lower (words_of (content_of c.args.bytes.now c.in-Ok.part
 
 pub returns-in-Ok-finish-clause-means : goal.returns-in-Ok-finish-clause-means
 returns-in-Ok-finish-clause-means c =
-    meant c.args.bytes.now (content_of c.args.bytes.now c.in-Ok.part) c.in-Ok-finish.words.items c.in-Ok-read.program.shader (in_code c.threads_of.result) c.in-Ok-lower.body
+    meant c.args.bytes.now (content_of c.args.bytes.now c.in-Ok.part) c.in-Ok-finish.words.items c.in-Ok-read.program.shader (axes c.threads.result.x c.threads.result.y c.threads.result.z) c.in-Ok-lower.body
     c.bytecode_laws.ensures.registers c.bytecode_laws.ensures.events c.result_laws.ensures.act c.spelled_laws.ensures.operands c.byte_laws.ensures.words
-    c.in-Ok.ensures.data c.in-Ok-read.ensures.ok c.threads_of.ensures c.in-Ok-lower.ensures c.in-Ok-finish.ensures
+    c.in-Ok.ensures.data c.in-Ok-read.ensures.ok c.threads.ensures c.in-Ok-lower.ensures c.in-Ok-finish.ensures.text c.in-Ok-finish.ensures.words
 
 pub returns-in-Ok-finish-clause-sound : goal.returns-in-Ok-finish-clause-sound
 returns-in-Ok-finish-clause-sound c =

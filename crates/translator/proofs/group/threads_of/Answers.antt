@@ -1,9 +1,0 @@
-use Rattle.translator.proofs.Threads.{at_group, at_other}
-use Rattle.translator.proofs.group.threads_of.Goals as goal
-
-pub returns-in-Group : goal.returns-in-Group
-returns-in-Group c =
-    at_group c.args.program.now.shader.declarations c.loop-i.i c.declaration.result c.in-Group.x c.in-Group.y c.in-Group.z c.declaration.ensures c.in-Group.is c.loop-i.invariant
-
-pub loop-i-preserved : goal.loop-i-preserved
-loop-i-preserved c = at_other c.args.program.now.shader.declarations c.loop-i.i c.declaration.result c.declaration.ensures c.in_default.not-Group c.loop-i.invariant
