@@ -67,31 +67,45 @@ pub struct Classes {
 pub enum Event {
     /// Reads a word.
     Load {
+        /// The room that is read.
         room: Room,
+        /// The word that is read, counted from 0.
         word: u32,
     },
     /// Writes a word.
     Store {
+        /// The room that is written.
         room: Room,
+        /// The word that is written, counted from 0.
         word: u32,
+        /// What it becomes.
         value: u32,
     },
     /// Reads a word and writes it anew, in one step. For every kind but `CompareExchange`, `b` is 0.
     Atomic {
+        /// The room that is changed.
         room: Room,
+        /// The word that is changed, counted from 0.
         word: u32,
+        /// What becomes of it.
         kind: Act,
+        /// The operand; of `CompareExchange` the word that is expected.
         a: u32,
+        /// Of `CompareExchange` the new word, and else 0.
         b: u32,
     },
     /// Orders what this lane does before and after it.
     Fence {
+        /// Whose order it speaks of.
         scope: Scope,
+        /// The memory that it orders.
         classes: Classes,
     },
     /// A fence at which the lanes of a group wait for one another.
     Barrier {
+        /// Whose order it speaks of.
         scope: Scope,
+        /// The memory that it orders.
         classes: Classes,
     },
 }
@@ -102,18 +116,24 @@ pub enum Event {
 /// `vThreadID`.)
 #[derive(Clone, Copy, Debug, PartialEq, Eq)]
 pub struct Ids {
-    /// The group in the dispatch.
+    /// The group in the dispatch, along x.
     pub group_x: u32,
+    /// The group in the dispatch, along y.
     pub group_y: u32,
+    /// The group in the dispatch, along z.
     pub group_z: u32,
-    /// The thread in its group.
+    /// The thread in its group, along x.
     pub x: u32,
+    /// The thread in its group, along y.
     pub y: u32,
+    /// The thread in its group, along z.
     pub z: u32,
     /// The thread in its group, counted along x, then y, then z.
     pub flat: u32,
-    /// The thread in the dispatch.
+    /// The thread in the dispatch, along x.
     pub thread_x: u32,
+    /// The thread in the dispatch, along y.
     pub thread_y: u32,
+    /// The thread in the dispatch, along z.
     pub thread_z: u32,
 }
