@@ -33,6 +33,8 @@ impl<T: Copy> Model for Pool<T> {
 impl<T: Copy> Pool<T> {
     /// Makes an empty pool with room for `capacity` items.
     ///
+    /// # Errors
+    ///
     /// `NoMemory` where the region cannot be had, as where it would take more bytes than the machine
     /// can address.
     pub fn make(alloc: Global, capacity: u32) -> Result<Pool<T>, NoMemory>
