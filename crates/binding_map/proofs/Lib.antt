@@ -1,0 +1,9 @@
+mod Lookups
+mod Joined
+mod Marked
+mod Least
+mod Numbered
+mod Whole
+mod Inhabited
+mod Single
+mod DefaultBound

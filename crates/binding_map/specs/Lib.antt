@@ -1,0 +1,10 @@
+pub mod Bindings
+pub mod Joins
+pub mod Places
+pub mod Lookups
+pub mod Defaults
+pub mod Marks
+pub mod Numbering
+pub mod Completeness
+pub mod Fits
+pub mod Examples
