@@ -1,0 +1,12 @@
+pub mod ChainLemmas
+pub mod CostLemmas
+pub mod Earlier
+pub mod ExtendLemmas
+pub mod Making
+pub mod PlanLemmas
+pub mod ReadLemmas
+pub mod StepLemmas
+pub mod TermLemmas
+pub mod Truths
+pub mod WordLemmas
+pub mod WordSteps
