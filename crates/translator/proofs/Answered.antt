@@ -23,7 +23,7 @@ use Rattle.translator.specs.declared.emission.Emitter.{Emitter}
 use Rattle.translator.specs.Finished.{wanted_of_names}
 use Rattle.translator.specs.Input.{IsBroken, IsProgramRefused}
 use Rattle.translator.specs.Lowered.{IsLowerable, Lowered}
-use Rattle.translator.specs.Bindings.{Fits}
+use Rattle.binding_map.specs.Fits.{Fits}
 use Rattle.translator.specs.Means.{FollowsIn, Means}
 use Rattle.translator.specs.Parts.{module_of}
 use Rattle.translator.specs.Wanted.{group_of}

@@ -8,7 +8,11 @@ use Rattle.word_base.specs.Words.{AreWords}
 use Rattle.tpf_program.specs.Declarations.{threads_in}
 use Rattle.tpf_program.specs.Extents.{IsExtent}
 use Rattle.tpf_program.specs.Sizes.{vectors_of}
-use Rattle.translator.specs.Bindings.{Binding, Constant, Uav as uav, Bound, Push, HoldsConstants, HasRooms, Fits}
+use Rattle.binding_map.specs.declared.register.Register.TheVariants.{Constant, Uav as uav}
+use Rattle.binding_map.specs.declared.register.Place.{Place}
+use Rattle.binding_map.specs.declared.register.Place.TheVariants.{Bound, Push}
+use Rattle.binding_map.specs.Bindings.{Binding, binding}
+use Rattle.binding_map.specs.Fits.{Fits, HoldsConstants, is_null_in}
 use Rattle.translator.specs.Dispatch.{IsDispatch, setting_of, ids_of}
 use Rattle.translator.specs.WantedExamples.{one_buffer, b0_bound, b0_pushed, with_buffer}
 use Rattle.translator.proofs.Summed.{no_words, words_where, view_words, view_extent, short}
@@ -37,20 +41,14 @@ ids lane h = record {
   thread_z = omega arith;
 }
 
-extent : (lane : ℕ) (room : Room) → IsExtent (λ r. false) one_buffer room ((setting_of (threads_in one_buffer.declarations) with_buffer lane).extent room)
-extent lane (Resource slot) = refl
-extent lane (Uav slot) = view_extent (nat_eq 0 slot)
-extent lane (Counter slot) = refl
-extent lane (Shared slot) = refl
+abbrev setting : ℕ → Setting
+setting lane = setting_of (threads_in one_buffer.declarations) with_buffer lane
 
-extent_word : (lane : ℕ) (room : Room) → (setting_of (threads_in one_buffer.declarations) with_buffer lane).extent room < 2 ^ 32
+extent_word : (lane : ℕ) (room : Room) → (setting lane).extent room < 2 ^ 32
 extent_word lane (Resource slot) = omega arith
 extent_word lane (Uav slot) = short (nat_eq 0 slot) (0 ∷ 0 ∷ []) (omega arith)
 extent_word lane (Counter slot) = omega arith
 extent_word lane (Shared slot) = omega arith
-
-rooms : (lane : ℕ) → lane < 3 → HasRooms one_buffer (setting_of (threads_in one_buffer.declarations) with_buffer lane)
-rooms lane h = record { words = record { ids = ids lane h; constants = words; extent = extent_word lane }; extents = extent lane }
 
 abbrev vectors : Bool → ℕ
 vectors b = if nat_eq (if b then 1 else 0) 0 then 0 else (if b then 1 else 0)
@@ -65,29 +63,24 @@ none_by false h = refl
 undeclared : (slot : ℕ) → vectors_of slot one_buffer.declarations ≡ 0 → with_buffer.constants slot ≡ []
 undeclared slot h = none_by (nat_eq 0 slot) h
 
-module _ (lane : ℕ) where
-  abbrev setting : Setting
-  setting = setting_of (threads_in one_buffer.declarations) with_buffer lane
+-- b0 at that place, and u0 at that binding
+module _ (place : Place) (n : ℕ) (holds : (lane : ℕ) → HoldsConstants one_buffer (setting lane) (Constant 0) place) where
+  abbrev bindings : List Binding
+  bindings = binding (Constant 0) place ∷ binding (uav 0) (Bound 0 n) ∷ []
 
-  is_bound : (k : ℕ) (b : Binding) → slice_get b0_bound k ≡ Some b → HoldsConstants one_buffer setting b.register b.place
-  is_bound zero b h =
-      let e : record { register = Constant 0; place = Bound 0 0 } ≡ b = cc in
-      subst (λ c. HoldsConstants one_buffer setting c.register c.place) e (omega arith)
-  is_bound (suc zero) b h =
-      let e : record { register = uav 0; place = Bound 0 1 } ≡ b = cc in subst (λ c. HoldsConstants one_buffer setting c.register c.place) e tt
-  is_bound (suc (suc k)) b h = absurd (cc)
+  extent : (lane : ℕ) (room : Room) → IsExtent (is_null_in bindings) one_buffer room ((setting lane).extent room)
+  extent lane (Resource slot) = refl
+  extent lane (Uav slot) = view_extent slot (Bound 0 n)
+  extent lane (Counter slot) = refl
+  extent lane (Shared slot) = refl
 
-  is_pushed : (k : ℕ) (b : Binding) → slice_get b0_pushed k ≡ Some b → HoldsConstants one_buffer setting b.register b.place
-  is_pushed zero b h =
-      let e : record { register = Constant 0; place = Push 0 4 } ≡ b = cc in
-      subst (λ c. HoldsConstants one_buffer setting c.register c.place) e (λ l. refl)
-  is_pushed (suc zero) b h =
-      let e : record { register = uav 0; place = Bound 0 0 } ≡ b = cc in subst (λ c. HoldsConstants one_buffer setting c.register c.place) e tt
-  is_pushed (suc (suc k)) b h = absurd (cc)
+  is_bound : (lane k : ℕ) (b : Binding) → slice_get bindings k ≡ Some b → HoldsConstants one_buffer (setting lane) b.register b.place
+  is_bound lane zero b h =
+      let e : binding (Constant 0) place ≡ b = cc in subst (λ c. HoldsConstants one_buffer (setting lane) c.register c.place) e (holds lane)
+  is_bound lane (suc zero) b h =
+      let e : binding (uav 0) (Bound 0 n) ≡ b = cc in subst (λ c. HoldsConstants one_buffer (setting lane) c.register c.place) e tt
+  is_bound lane (suc (suc k)) b h = absurd (cc)
 
-module _ (bindings : List Binding)
-    (holds : (lane k : ℕ) (b : Binding) → slice_get bindings k ≡ Some b
-    → HoldsConstants one_buffer (setting_of (threads_in one_buffer.declarations) with_buffer lane) b.register b.place) where
   is_dispatch : IsDispatch (threads_in one_buffer.declarations) (Fits one_buffer bindings) with_buffer
   is_dispatch = record {
     x = (omega arith, omega arith);
@@ -95,11 +88,14 @@ module _ (bindings : List Binding)
     z = (omega arith, omega arith);
     views = view_words;
     shared = λ group slot. no_words;
-    settings = λ lane h. record { rooms = rooms lane h; constants = record { bound = holds lane; undeclared = undeclared } };
+    settings = λ lane h. record {
+      rooms = record { words = record { ids = ids lane h; constants = words; extent = extent_word lane }; extents = extent lane };
+      constants = record { bound = is_bound lane; undeclared = undeclared };
+    };
   }
 
 pub at_descriptor : IsDispatch (threads_in one_buffer.declarations) (Fits one_buffer b0_bound) with_buffer
-at_descriptor = is_dispatch b0_bound is_bound
+at_descriptor = is_dispatch (Bound 0 0) 1 (λ lane. omega arith)
 
 pub in_push_words : IsDispatch (threads_in one_buffer.declarations) (Fits one_buffer b0_pushed) with_buffer
-in_push_words = is_dispatch b0_pushed is_pushed
+in_push_words = is_dispatch (Push 0 4) 0 (λ lane declared. refl)

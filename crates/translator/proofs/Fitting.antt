@@ -1,5 +1,6 @@
 -- What a straight line gives to the passes behind the reader: programs of words, in range, with no other memory than what is shared.
 use Rattle.std.proofs.Common.{◌≡◌, ℕ, ◌<◌, ◌^◌, Bool, true, false, ◌&&◌, List, [], ◌∷◌, Option, Some, None, IsTrue, refl, sym, ◌∙◌, subst, arith}
+use Rattle.std.proofs.lemmas.Bool.{and_parts}
 use Rattle.std.specs.Prelude.{slice_get, slice_index, nat_eq, if◌then◌else◌}
 use Rattle.std.specs.List.{list_all}
 use Rattle.word_base.specs.declared.event.Room.{Room}
@@ -22,19 +23,11 @@ use Rattle.translator.specs.Raised.{At, AreAllOfWords, IsComponent, SelectCompon
 use Rattle.translator.proofs.Limits.{few_registers, few_slots, few_words}
 use Rattle.translator.proofs.Wants.{is_plain}
 
-first_of : (a b : Bool) → IsTrue (a && b) → IsTrue a
-first_of true b h = refl
-first_of false b h = absurd cc
-
-rest_of : (a b : Bool) → IsTrue (a && b) → IsTrue b
-rest_of true b h = h
-rest_of false b h = absurd cc
-
 -- no immediate constants
 no_constants : (items : List Item) → IsTrue (list_all (λ d. is_built d.what) (declarations_in items)) → constants_in items ≡ []
 no_constants [] h = refl
-no_constants (Declares d ∷ xs) h = no_constants xs (rest_of (is_built d.what) (list_all (λ e. is_built e.what) (declarations_in xs)) h)
-no_constants (Types d view ∷ xs) h = no_constants xs (rest_of (is_built d.what) (list_all (λ e. is_built e.what) (declarations_in xs)) h)
+no_constants (Declares d ∷ xs) h = no_constants xs (and_parts (is_built d.what) (list_all (λ e. is_built e.what) (declarations_in xs)) h).1
+no_constants (Types d view ∷ xs) h = no_constants xs (and_parts (is_built d.what) (list_all (λ e. is_built e.what) (declarations_in xs)) h).1
 no_constants (Does i ∷ xs) h = no_constants xs h
 no_constants (Lists place values ∷ xs) h = absurd (cc)
 no_constants (Skips kind values ∷ xs) h = no_constants xs h
@@ -98,8 +91,8 @@ by_bytes : (typed : List Room) (k : Kind) (slot : ℕ) (ds : List Declared) → 
 by_bytes typed k slot [] h = refl
 by_bytes typed k slot (d ∷ ds) h =
     let test = λ (e : Declared). is_built e.what in
-    or_bytes (addressing_declared typed k slot d.what) (addressing_of typed k slot ds) (none_or typed k slot d.what (first_of (is_built d.what) (list_all test ds) h))
-    (by_bytes typed k slot ds (rest_of (is_built d.what) (list_all test ds) h))
+    or_bytes (addressing_declared typed k slot d.what) (addressing_of typed k slot ds) (none_or typed k slot d.what (and_parts (is_built d.what) (list_all test ds) h).0)
+    (by_bytes typed k slot ds (and_parts (is_built d.what) (list_all test ds) h).1)
 
 bytes_are_none : (a : Addressing) (stride : ℕ) → a ≡ Bytes → a ≡ Structures stride → ⊥
 bytes_are_none a stride h k = cc (h, k)
@@ -168,5 +161,5 @@ pub all_plain : (ds : List Declared) → IsTrue (list_all (λ d. is_built d.what
 all_plain [] h = refl
 all_plain (d ∷ ds) h =
     let test = λ (e : Declared). is_built e.what in
-    and_so (is_plain d.what) (list_all (λ e. is_plain e.what) ds) (plain d.what (first_of (is_built d.what) (list_all test ds) h))
-    (all_plain ds (rest_of (is_built d.what) (list_all test ds) h))
+    and_so (is_plain d.what) (list_all (λ e. is_plain e.what) ds) (plain d.what (and_parts (is_built d.what) (list_all test ds) h).0)
+    (all_plain ds (and_parts (is_built d.what) (list_all test ds) h).1)

@@ -12,7 +12,8 @@ use Rattle.tpf_program.specs.StraightLine.{returns}
 use Rattle.tpf_program.specs.Bytecode as bytecode
 use Rattle.spirv_words.specs.Smallest.{smallest}
 use Rattle.spirv_words.specs.Lane as lane
-use Rattle.translator.specs.Bindings.{Binding, places_of}
+use Rattle.binding_map.specs.Bindings.{Binding}
+use Rattle.binding_map.specs.Places.{places_of}
 
 pub left_ends : (p : Shader) (setting : Setting) (i : Instruction) → p.instructions ≡ i ∷ [] → IsTrue (returns i) → bytecode.step Base p setting bytecode.start ≡ Ends
 unfolding meaning_of opcode_table

@@ -1,5 +1,6 @@
 -- The lines of a program's instructions, one after the other.
-use Rattle.std.proofs.Common.{◌≡◌, ℕ, zero, suc, ◌+◌, ◌-◌, ◌*◌, ◌<◌, ◌≤◌, Bool, true, false, ◌&&◌, inl, inr, List, [], ◌∷◌, ◌++◌, take, length, map, Some, IsTrue, refl, sym, ap, ◌∙◌, subst, arith, append_assoc, length-append}
+use Rattle.std.proofs.Common.{◌≡◌, ℕ, zero, suc, ◌+◌, ◌-◌, ◌*◌, ◌<◌, ◌≤◌, Bool, true, false, inl, inr, List, [], ◌∷◌, ◌++◌, take, length, map, Some, IsTrue, refl, sym, ap, ◌∙◌, subst, arith, append_assoc, length-append}
+use Rattle.std.proofs.lemmas.Bool.{and_parts}
 use Rattle.std.specs.Prelude.{slice_get, nat_eq, nat_lt, not, filter, cond, if◌then◌else◌}
 use Rattle.std.specs.List.{list_all}
 use Rattle.std.proofs.lemmas.Bool.Decides.{nat_tests}
@@ -45,18 +46,10 @@ in_front [] y i x lt h = absurd (omega (arith, lt))
 in_front (z ∷ xs) y zero x lt h = h
 in_front (z ∷ xs) y (suc i) x lt h = in_front xs y i x (omega (arith, lt)) h
 
-first_of : (a b : Bool) → IsTrue (a && b) → IsTrue a
-first_of true b h = refl
-first_of false b h = absurd cc
-
-rest_of : (a b : Bool) → IsTrue (a && b) → IsTrue b
-rest_of true b h = h
-rest_of false b h = absurd cc
-
 all_at : {X : Type 0} (test : X → Bool) (xs : List X) (i : ℕ) (x : X) → IsTrue (list_all test xs) → slice_get xs i ≡ Some x → IsTrue (test x)
 all_at test [] i x h k = absurd cc
-all_at test (y ∷ xs) zero x h k = let e : y ≡ x = cc in subst (λ z. IsTrue (test z)) e (first_of (test y) (list_all test xs) h)
-all_at test (y ∷ xs) (suc i) x h k = all_at test xs i x (rest_of (test y) (list_all test xs) h) k
+all_at test (y ∷ xs) zero x h k = let e : y ≡ x = cc in subst (λ z. IsTrue (test z)) e (and_parts (test y) (list_all test xs) h).0
+all_at test (y ∷ xs) (suc i) x h k = all_at test xs i x (and_parts (test y) (list_all test xs) h).1 k
 
 -- an instruction in front of the last one is raised
 not_false : (b : Bool) → IsTrue (not b) → b ≡ false
@@ -123,10 +116,10 @@ slots_by p names x false e h = tt
 
 extent_of : (p : Shader) (x : Instruction) → IsTrue (is_store p.declarations x) → 0 < shared_extent x.o0.slot p.declarations
 extent_of p x h =
-    let a = rest_of (nat_eq x.code 166) _ h in
-    let b = first_of (is_place p.declarations x.o0) _ a in
-    let c = rest_of (is_shared x.o0.kind) _ b in
-    let d : nat_lt 0 (shared_extent x.o0.slot p.declarations) ≡ true = rest_of (has_mask x.o0.select) _ c in
+    let a = (and_parts (nat_eq x.code 166) _ h).1 in
+    let b = (and_parts (is_place p.declarations x.o0) _ a).0 in
+    let c = (and_parts (is_shared x.o0.kind) _ b).1 in
+    let d : nat_lt 0 (shared_extent x.o0.slot p.declarations) ≡ true = (and_parts (has_mask x.o0.select) _ c).1 in
     grind (arith, nat_tests, d)
 
 pub slots_there : (p : Shader) (begin out : Emitter) (seg : List Line) (x : Instruction) → Begun p begin → Grows begin out seg

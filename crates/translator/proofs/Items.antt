@@ -1,9 +1,9 @@
 -- The shape of a straight line: its stores to shared memory.
 use Rattle.tpf_decode.specs.Profiles.{Base}
-use Rattle.std.proofs.Common.{◌≡◌, ℕ, ◌+◌, ⊎_elim, List, [], ◌∷◌, ◌++◌, map, IsTrue, refl, sym, ap, ◌∙◌, Bool, true, false}
-use Rattle.std.specs.Prelude.{nat_eq, ◌&&◌, ◌||◌}
+use Rattle.std.proofs.Common.{◌≡◌, ℕ, ◌+◌, ⊎_elim, List, [], ◌∷◌, ◌++◌, map, IsTrue, refl, sym, ap, ◌∙◌, false}
+use Rattle.std.specs.Prelude.{nat_eq, ◌||◌}
 use Rattle.std.specs.List.{list_all}
-use Rattle.std.proofs.lemmas.Bool.{eqb-true}
+use Rattle.std.proofs.lemmas.Bool.{eqb-true, and_parts}
 use Rattle.word_base.specs.declared.event.Room.TheVariants.{Shared}
 use Rattle.tpf_program.specs.declared.declaration.Declared.{Declared}
 use Rattle.tpf_program.specs.declared.instruction.Instruction.{Instruction}
@@ -70,20 +70,12 @@ map_join : {X : Type 0} (f : ℕ → X) (xs ys : List ℕ) → map f (xs ++ ys) 
 map_join f [] ys = refl
 map_join f (x ∷ xs) ys = ap (λ l. f x ∷ l) (map_join f xs ys)
 
-first_of : (a b : Bool) → IsTrue (a && b) → IsTrue a
-first_of true b h = refl
-first_of false b h = absurd (cc)
-
-rest_of : (a b : Bool) → IsTrue (a && b) → IsTrue b
-rest_of true b h = h
-rest_of false b h = absurd (cc)
-
 pub items_are : (places : Places) (cases : ℕ → List ℕ) (declarations : List Declared) (q : ℕ) (is : List Instruction) → IsTrue (list_all (is_built_in declarations) is)
     → items_of Base places cases q is ≡ map store_item (all_slots is)
 items_are places cases declarations q [] h = refl
 items_are places cases declarations q (x ∷ xs) h =
-    ap (λ l. l ++ items_of Base places cases (q + 1) xs) (at_each places cases q declarations x (first_of (is_built_in declarations x) (list_all (is_built_in declarations) xs) h))
-    ∙ (ap (λ l. map store_item (slots_for x) ++ l) (items_are places cases declarations (q + 1) xs (rest_of (is_built_in declarations x) (list_all (is_built_in declarations) xs) h))
+    ap (λ l. l ++ items_of Base places cases (q + 1) xs) (at_each places cases q declarations x (and_parts (is_built_in declarations x) (list_all (is_built_in declarations) xs) h).0)
+    ∙ (ap (λ l. map store_item (slots_for x) ++ l) (items_are places cases declarations (q + 1) xs (and_parts (is_built_in declarations x) (list_all (is_built_in declarations) xs) h).1)
     ∙ sym (map_join store_item (slots_for x) (all_slots xs)))
 
 -- one more that stores nothing

@@ -8,7 +8,7 @@ use Rattle.tpf_program.specs.Declarations.{threads_in}
 use Rattle.tpf_program.specs.Program.{Shader}
 use Rattle.tpf_program.specs.StraightLine.{returns}
 use Rattle.spirv_words.specs.Smallest.{smallest}
-use Rattle.translator.specs.Bindings.{Binding}
+use Rattle.binding_map.specs.Bindings.{Binding}
 use Rattle.translator.specs.Dispatch.{setting_of}
 use Rattle.translator.specs.Runs.{Machine, Picked, HasValue, Leads}
 use Rattle.translator.specs.SameRuns.{SameRuns}

@@ -12,14 +12,13 @@ use Rattle.word_base.specs.Words.{AreWords}
 use Rattle.tpf_program.specs.declared.instruction.Instruction.{Instruction}
 use Rattle.tpf_program.specs.Bytecode as bytecode
 use Rattle.tpf_program.specs.Bytecode.{State, plan, plan_by, result, result_by, left_by, goes_to, onward, turn_of, turn_by, turn_at}
-use Rattle.translator.specs.Bindings.{HasRooms}
 use Rattle.tpf_program.specs.Holding.{HoldWords, IsProgramOfWords}
 use Rattle.tpf_decode.specs.Opcodes.{meaning_of, opcode_table}
 use Rattle.tpf_program.specs.Plans.{parts, made}
 use Rattle.tpf_program.specs.Program.{Shader}
 use Rattle.tpf_program.specs.StraightLine.{returns}
 use Rattle.tpf_program.specs.Values.{context}
-use Rattle.translator.specs.Raised.{Plans, Left, GoesOn, AllDo, AreAllOfWords, size_of}
+use Rattle.translator.specs.Raised.{Plans, Left, HasRooms, GoesOn, AllDo, AreAllOfWords, size_of}
 use Rattle.translator.specs.Terms.{Statement, Stand, no_words, stand, push, push_all, step}
 use Rattle.translator.proofs.RaiseLaws.{LeavesWords}
 use Rattle.translator.proofs.RaisePlans.{weaker}

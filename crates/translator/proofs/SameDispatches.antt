@@ -11,7 +11,9 @@ use Rattle.tpf_program.specs.Holding.{AreOfWords, IsProgramOfWords, IsEventOfWor
 use Rattle.tpf_program.specs.Program.{Shader}
 use Rattle.spirv_words.specs.Lane as lane
 use Rattle.spirv_words.specs.Text.{Module}
-use Rattle.translator.specs.Bindings.{Binding, places_of, Fits}
+use Rattle.binding_map.specs.Bindings.{Binding}
+use Rattle.binding_map.specs.Fits.{Fits}
+use Rattle.binding_map.specs.Places.{places_of}
 use Rattle.translator.specs.Dispatch.{Dispatch, AreLanes, lanes_of, setting_of, at_start, shared_machine}
 use Rattle.translator.specs.SameRuns.{SameRuns}
 use Rattle.translator.proofs.DispatchWords.{HoldsWords, keeps_words}

@@ -1,7 +1,7 @@
 -- There is a dispatch of the program that adds in shared memory, and its run has a value.
 use Rattle.tpf_decode.specs.Profiles.{Base}
 use Rattle.std.proofs.Common.{◌≡◌, ℕ, zero, suc, ◌<◌, ◌≤◌, ◌^◌, Bool, true, false, List, [], ◌∷◌, length, Option, Some, None, refl, subst, arith}
-use Rattle.std.specs.Prelude.{nat_eq, if◌then◌else◌, ◌||◌, slice_get, slice_index, option_map}
+use Rattle.std.specs.Prelude.{nat_eq, if◌then◌else◌, not, cond, is_none, ◌&&◌, ◌||◌, slice_get, slice_index, option_map}
 use Rattle.std.specs.Bool.{MatchBool}
 use Rattle.word_base.specs.declared.event.Room.{Room}
 use Rattle.word_base.specs.declared.event.Room.TheVariants.{Resource, Uav, Counter, Shared}
@@ -10,24 +10,44 @@ use Rattle.word_base.specs.Words.{AreWords}
 use Rattle.tpf_program.specs.Declarations.{threads_in}
 use Rattle.tpf_program.specs.Extents.{IsExtent}
 use Rattle.tpf_decode.specs.Opcodes.{meaning_of, opcode_table}
-use Rattle.translator.specs.Bindings.{Binding, Uav as uav, Bound, HoldsConstants, Fits}
+use Rattle.binding_map.specs.declared.register.Register.TheVariants.{Uav as uav}
+use Rattle.binding_map.specs.declared.register.Place.{Place}
+use Rattle.binding_map.specs.declared.register.Place.TheVariants.{Bound}
+use Rattle.binding_map.specs.Bindings.{Binding, binding}
+use Rattle.binding_map.specs.Fits.{Fits, HoldsConstants, is_null_in}
 use Rattle.translator.specs.Dispatch.{IsDispatch, Shares, setting_of, ids_of}
 use Rattle.translator.specs.RunExamples.{summing, one_group, views, run_of, in_turns}
 use Rattle.translator.specs.SameRuns.{ProgramRuns}
 use Rattle.translator.specs.ShapeExamples.{u0_bound}
 use Rattle.translator.proofs.Computed.{run_of_program}
 
-pub view_extent : (b : Bool) → MatchBool (b || false) (length {A = ℕ} (if b then 0 ∷ 0 ∷ [] else []) < 2 ^ 30) (length {A = ℕ} (if b then 0 ∷ 0 ∷ [] else []) ≡ 0)
-view_extent true = omega arith
-view_extent false = refl
+-- u0 has a place and two words, and any other view has neither
+abbrev is_null : Bool → Place → Bool
+is_null there place = is_none (option_map (λ (b : Binding). b.place) (cond there (Some (binding (uav 0) place)) None))
+
+abbrev view_length : Bool → ℕ
+view_length b = length {A = ℕ} (if b then 0 ∷ 0 ∷ [] else [])
+
+by_slot : (a b : Bool) (place : Place) → a ≡ b → MatchBool (not (is_null a place) && (b || false)) (view_length b < 2 ^ 30) (view_length b ≡ 0)
+by_slot true true place e = omega arith
+by_slot true false place e = absurd (cc)
+by_slot false true place e = absurd (cc)
+by_slot false false place e = refl
+
+turned : (m n : ℕ) → nat_eq m n ≡ nat_eq n m
+turned m n = grind arith
+
+pub view_extent : (slot : ℕ) (place : Place)
+    → MatchBool (not (is_null (nat_eq slot 0) place) && (nat_eq 0 slot || false)) (view_length (nat_eq 0 slot) < 2 ^ 30) (view_length (nat_eq 0 slot) ≡ 0)
+view_extent slot place = by_slot (nat_eq slot 0) (nat_eq 0 slot) place (turned slot 0)
 
 shared_extent : (b : Bool) → length {A = ℕ} (if b then 0 ∷ [] else []) ≡ (if nat_eq (if b then 1 else 0) 0 then 0 else (if b then 1 else 0))
 shared_extent true = refl
 shared_extent false = refl
 
-extent : (lane : ℕ) (room : Room) → IsExtent (λ r. false) summing room ((setting_of (threads_in summing.declarations) one_group lane).extent room)
+extent : (lane : ℕ) (room : Room) → IsExtent (is_null_in u0_bound) summing room ((setting_of (threads_in summing.declarations) one_group lane).extent room)
 extent lane (Resource slot) = refl
-extent lane (Uav slot) = view_extent (nat_eq 0 slot)
+extent lane (Uav slot) = view_extent slot (Bound 0 0)
 extent lane (Counter slot) = refl
 extent lane (Shared slot) = shared_extent (nat_eq 0 slot)
 

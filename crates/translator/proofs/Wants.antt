@@ -8,8 +8,8 @@ use Rattle.tpf_program.specs.declared.declaration.Declared.{Declared}
 use Rattle.tpf_program.specs.Extents.{shared_extent}
 use Rattle.tpf_program.specs.Program.{Shader}
 use Rattle.translator.specs.declared.names.Found.{Found}
-use Rattle.translator.specs.Bindings as bindings
 use Rattle.translator.specs.Finished.{shared_words, wanted_of_names}
+use Rattle.translator.specs.SharedSlots as declared
 use Rattle.translator.specs.Wanted.{wanted_of, input_of}
 
 -- declarations that want no variable but shared memory
@@ -42,11 +42,11 @@ no_inputs (d ∷ ds) h =
     let a = both (is_plain d.what) (list_all (λ e. is_plain e.what) ds) h in
     rw (no_input d.what a.0) (no_inputs ds a.1)
 
-by_parts : (p : Shader) (shared inputs : List ℕ) → shared ≡ map (λ slot. shared_extent slot p.declarations) (bindings.shared_slots p)
+by_parts : (p : Shader) (shared inputs : List ℕ) → shared ≡ map (λ slot. shared_extent slot p.declarations) (declared.shared_slots p)
     → filter_map (λ d. input_of d.what) p.declarations ≡ inputs → inputs ≡ []
     → record { buffers = []; uniforms = []; push = None; shared = shared; inputs = [] } ≡ wanted_of p []
 by_parts p shared inputs h k e = rw (h, k, e) refl
 
 pub wants : (p : Shader) (names : List Found) → IsTrue (list_all (λ d. is_plain d.what) p.declarations)
-    → shared_words names ≡ map (λ slot. shared_extent slot p.declarations) (bindings.shared_slots p) → wanted_of_names names ≡ wanted_of p []
+    → shared_words names ≡ map (λ slot. shared_extent slot p.declarations) (declared.shared_slots p) → wanted_of_names names ≡ wanted_of p []
 wants p names h e = by_parts p (shared_words names) [] e (no_inputs p.declarations h) refl

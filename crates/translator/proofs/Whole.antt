@@ -20,14 +20,16 @@ use Rattle.spirv_words.specs.Lane as lane
 use Rattle.spirv_words.specs.Text.{Module}
 use Rattle.translator.specs.declared.emission.Emitter.{Emitter}
 use Rattle.translator.specs.declared.names.Name.TheVariants as name
-use Rattle.translator.specs.Bindings as bindings
-use Rattle.translator.specs.Bindings.{Binding, places_of, places_in, Fits}
+use Rattle.binding_map.specs.Fits.{Fits}
+use Rattle.binding_map.specs.Places.{places_of}
 use Rattle.translator.specs.Emission.{LoweredIn}
 use Rattle.translator.specs.Finished.{shared_slots, shared_words}
 use Rattle.translator.specs.Found.{Has, shared_in}
 use Rattle.translator.specs.Lowered.{Lowered, all_slots}
 use Rattle.translator.specs.Parts.{module_of}
 use Rattle.translator.specs.Raised.{AreAllOfWords, size_of}
+use Rattle.translator.specs.SharedSlots as declared
+use Rattle.translator.specs.SharedSlots.{places_in}
 use Rattle.translator.specs.Terms.{stand, step, no_words}
 use Rattle.translator.proofs.Composed.{composed}
 use Rattle.translator.proofs.Declared.{slots_of_shared, words_of_shared}
@@ -43,10 +45,10 @@ module _ (p : Shader) (e : Emitter) (l : Lowered p e) where
   shared_same : shared_in e.names.items ≡ shared_in l.begin.names.items
   shared_same = l.covers.lowers.grows.shared
 
-  pub slots_are : shared_slots e.names.items ≡ bindings.shared_slots p
+  pub slots_are : shared_slots e.names.items ≡ declared.shared_slots p
   slots_are = slots_of_shared e.names.items ∙ (ap shared_slots shared_same ∙ (sym (slots_of_shared l.begin.names.items) ∙ l.begun.slots))
 
-  pub words_are : shared_words e.names.items ≡ map (λ slot. shared_extent slot p.declarations) (bindings.shared_slots p)
+  pub words_are : shared_words e.names.items ≡ map (λ slot. shared_extent slot p.declarations) (declared.shared_slots p)
   words_are = words_of_shared e.names.items ∙ (ap shared_words shared_same ∙ (sym (words_of_shared l.begin.names.items) ∙ l.begun.words))
 
   lines_are : e.lines.items ≡ l.covers.lowers.seg

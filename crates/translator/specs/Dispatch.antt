@@ -43,8 +43,8 @@ abbrev pub flat_of : Axes → ℕ → ℕ
 flat_of t lane = lane % group_size t
 
 -- where a number stands that counts along x, then y, then z
-abbrev pub standing : ℕ → ℕ → ℕ → Axes
-standing x y n = axes (n % x) (n / x % y) (n / x / y)
+abbrev pub standing : Axes → ℕ → Axes
+standing a n = axes (n % a.x) (n / a.x % a.y) (n / a.x / a.y)
 
 abbrev pub ids_at : Axes → Axes → Axes → ℕ → Ids
 ids_at t group thread flat = record {
@@ -61,7 +61,7 @@ ids_at t group thread flat = record {
 }
 
 abbrev pub ids_of : Axes → Dispatch → ℕ → Ids
-ids_of t d lane = ids_at t (standing d.groups.x d.groups.y (group_of_lane t lane)) (standing t.x t.y (flat_of t lane)) (flat_of t lane)
+ids_of t d lane = ids_at t (standing d.groups (group_of_lane t lane)) (standing t (flat_of t lane)) (flat_of t lane)
 
 -- what the dispatch gives a lane, where groups have those threads
 abbrev pub setting_of : Axes → Dispatch → ℕ → Setting

@@ -7,18 +7,18 @@ use Rattle.tpf_program.specs.Program.{Shader}
 use Rattle.tpf_program.specs.Sizes.{temps_of}
 use Rattle.tpf_program.specs.StraightLine.{is_built, is_built_in, returns, ReturnsAtEnd}
 use Rattle.translator.specs.declared.emission.Emitter.{Emitter}
-use Rattle.translator.specs.Bindings as bindings
 use Rattle.translator.specs.Emission.{Lowers}
 use Rattle.translator.specs.Finished.{shared_slots, shared_words}
 use Rattle.translator.specs.Raised.{At, SelectComponents, AllDo, size_of, slots_for}
+use Rattle.translator.specs.SharedSlots as declared
 use Rattle.translator.specs.Terms.{Statement, push, push_onto, stored}
 
 -- The emitter has no lines yet, and names of the shared memory that the program declares, with its words, in the order of the slots.
 pub record Begun (p : Shader) (e : Emitter) : Type 0 where
   pub lines : e.lines.items ≡ []
   pub registers : e.registers ≡ size_of p
-  pub slots : shared_slots e.names.items ≡ bindings.shared_slots p
-  pub words : shared_words e.names.items ≡ map (λ slot. shared_extent slot p.declarations) (bindings.shared_slots p)
+  pub slots : shared_slots e.names.items ≡ declared.shared_slots p
+  pub words : shared_words e.names.items ≡ map (λ slot. shared_extent slot p.declarations) (declared.shared_slots p)
 
 -- the slots of shared memory to which instructions store
 abbrev pub all_slots : List Instruction → List ℕ

@@ -11,7 +11,9 @@ use Rattle.tpf_program.specs.Bytecode as bytecode
 use Rattle.spirv_words.specs.Text.{Module, IsTextOf}
 use Rattle.spirv_words.specs.Lane as lane
 use Rattle.spirv_words.specs.Form.{Form}
-use Rattle.translator.specs.Bindings.{Binding, places_of, Fits}
+use Rattle.binding_map.specs.Bindings.{Binding}
+use Rattle.binding_map.specs.Fits.{Fits}
+use Rattle.binding_map.specs.Places.{places_of}
 use Rattle.translator.specs.ModuleShape.{HasShape}
 use Rattle.translator.specs.SameRuns.{SameRuns}
 use Rattle.translator.specs.Wanted.{group_of, wanted_of}

@@ -17,7 +17,8 @@ use Rattle.spirv_words.specs.Ids.{definition}
 use Rattle.spirv_words.specs.Sorts.{Sort, Pointer, sort_of_value}
 use Rattle.spirv_words.specs.Globals.{Places, bound_room, decoration, workgroup_ids}
 use Rattle.spirv_words.specs.Memory.{act_of}
-use Rattle.translator.specs.Bindings.{Binding, places_in}
+use Rattle.binding_map.specs.Bindings.{Binding}
+use Rattle.translator.specs.SharedSlots.{places_in}
 use Rattle.translator.specs.Shape.{Item, OpensLoop, OpensSwitch, ClosesIt, Loads, Stores, Changes, Fences, Waits, Hidden, program_shape}
 
 -- the merge labels of loops, and of switches: those of the OpSelectionMerge directly before an OpSwitch

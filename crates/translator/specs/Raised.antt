@@ -10,7 +10,7 @@ use Rattle.tpf_decode.specs.declared.argument.Select.TheVariants.{One}
 use Rattle.tpf_program.specs.declared.declaration.Declared.{Declared}
 use Rattle.tpf_program.specs.declared.instruction.Instruction.{Instruction}
 use Rattle.tpf_program.specs.Bytecode.{plan, result, left_by, goes_to, onward}
-use Rattle.translator.specs.Bindings.{HasRooms}
+use Rattle.tpf_program.specs.Extents.{FitsRooms}
 use Rattle.tpf_program.specs.Holding.{AreOfWords, HoldWords}
 use Rattle.tpf_decode.specs.Opcodes.{meaning_of}
 use Rattle.tpf_decode.specs.declared.meaning.Meaning.{Meaning}
@@ -20,6 +20,7 @@ use Rattle.tpf_program.specs.Sizes.{temps_of}
 pub use Rattle.tpf_program.specs.StraightLine.{is_temp, is_null, is_literal, is_shared, has_mask, is_register, is_destination, is_source, is_nop, is_move, is_sum, is_saturated, is_store, is_built_in}
 use Rattle.tpf_program.specs.Values.{Context}
 use Rattle.tpf_program.specs.Writes.{masked}
+use Rattle.binding_map.specs.Fits.{is_null_in}
 use Rattle.translator.specs.declared.tree.Tree.{Tree}
 use Rattle.translator.specs.Nodes.{IsStatement, Keeps}
 use Rattle.translator.specs.Terms.{Statement, Words, Stand, stand, push, step, ids_for, stored}
@@ -42,6 +43,10 @@ Agrees p registers t = (slot c : ℕ) → slot < temps_of p.declarations → c <
 pub record Left (p : Shader) (k : List Statement) (registers : Registers) (u : Stand) : Type 0 where
   pub todo : u.todo ≡ k
   pub words : Agrees p registers u.words
+
+-- The rooms fit the program, where no view and no counter is bound.
+abbrev pub HasRooms : Shader → Setting → Type 0
+HasRooms p setting = FitsRooms (is_null_in []) p setting
 
 -- The statement makes the events of the instruction and leaves its registers, whatever follows it.
 abbrev pub Does : Shader → Statement → Instruction → Type 0

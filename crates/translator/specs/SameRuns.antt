@@ -9,7 +9,9 @@ use Rattle.tpf_program.specs.Bytecode as bytecode
 use Rattle.spirv_words.specs.Text.{Module}
 use Rattle.spirv_words.specs.Globals.{Places}
 use Rattle.spirv_words.specs.Lane as lane
-use Rattle.translator.specs.Bindings.{Binding, places_of, Fits}
+use Rattle.binding_map.specs.Bindings.{Binding}
+use Rattle.binding_map.specs.Fits.{Fits}
+use Rattle.binding_map.specs.Places.{places_of}
 use Rattle.translator.specs.Dispatch.{Dispatch, IsDispatch, AreLanes, Shares, setting_of, at_start, shared_machine}
 use Rattle.translator.specs.Runs.{HasValue}
 

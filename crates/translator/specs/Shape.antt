@@ -17,7 +17,8 @@ use Rattle.tpf_program.specs.Program.{Shader}
 use Rattle.tpf_program.specs.Views.{room_of}
 use Rattle.tpf_program.specs.Writes.{has_bit, masked, written}
 use Rattle.spirv_words.specs.Globals.{Places}
-use Rattle.translator.specs.Bindings.{Binding, places_of}
+use Rattle.binding_map.specs.Bindings.{Binding}
+use Rattle.binding_map.specs.Places.{places_of}
 use Rattle.translator.specs.Dispatch.{same_room}
 
 pub data Item : Type 0 where

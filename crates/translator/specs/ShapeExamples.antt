@@ -15,7 +15,10 @@ use Rattle.tpf_program.specs.Spelling.{nothing}
 use Rattle.spirv_words.specs.Broken.{Sorts, label, goto, select_to, leave}
 use Rattle.spirv_words.specs.Operations.{OpAccessChain, OpBranch, OpBranchConditional, OpCompositeConstruct, OpCompositeExtract, OpConstantFalse, OpDecorate, OpFunction, OpFunctionEnd, OpLabel, OpLoopMerge, OpReturn, OpSelectionMerge, OpStore, OpSwitch, OpTypeStruct, OpVariable}
 use Rattle.spirv_words.specs.Text.{Instr, Module, instruction as spirv}
-use Rattle.translator.specs.Bindings.{Binding, Uav, Counter, Bound, places_in}
+use Rattle.binding_map.specs.declared.register.Register.TheVariants.{Uav, Counter}
+use Rattle.binding_map.specs.declared.register.Place.TheVariants.{Bound}
+use Rattle.binding_map.specs.Bindings.{Binding}
+use Rattle.translator.specs.SharedSlots.{places_in}
 use Rattle.translator.specs.Shape.{Item, OpensLoop, OpensSwitch, ClosesIt, Stores, Changes, Hidden, program_shape}
 use Rattle.translator.specs.ModuleShape.{module_shape}
 use Rattle.translator.specs.ModuleRunExamples.{module_of, word_of_view, store, choose_by, broken_alone}

@@ -20,7 +20,7 @@ use Rattle.tpf_program.specs.Spelling.{nothing}
 use Rattle.spirv_words.specs.Lane as lane
 use Rattle.spirv_words.specs.Operations.{OpAccessChain, OpCapability, OpConstant, OpConstantNull, OpEntryPoint, OpExecutionMode, OpFunction, OpFunctionEnd, OpIAdd, OpLabel, OpLoad, OpMemoryModel, OpReturn, OpStore, OpTypeArray, OpTypeFunction, OpTypeInt, OpTypePointer, OpTypeVoid, OpVariable}
 use Rattle.spirv_words.specs.Text.{Instr, Module, instruction as spirv}
-use Rattle.translator.specs.Bindings.{places_of}
+use Rattle.binding_map.specs.Places.{places_of}
 
 -- l(3, 4, 0, 0), and r0.xyxx
 abbrev pub three_and_four : Argument

@@ -12,7 +12,12 @@ use Rattle.tpf_program.specs.Program.{Shader}
 use Rattle.word_base.specs.Settings.{Axes}
 use Rattle.spirv_words.specs.BuiltIn.{GlobalInvocationId, WorkgroupId, LocalInvocationId, LocalInvocationIndex}
 use Rattle.spirv_words.specs.Variables.{WantedBuffer, WantedUniform, Wanted}
-use Rattle.translator.specs.Bindings.{Register, Constant, Resource, Uav as uav, Counter, Place, Bound, Push, Binding, shared_slots}
+use Rattle.binding_map.specs.declared.register.Register.{Register}
+use Rattle.binding_map.specs.declared.register.Register.TheVariants.{Constant, Resource, Uav as uav, Counter}
+use Rattle.binding_map.specs.declared.register.Place.{Place}
+use Rattle.binding_map.specs.declared.register.Place.TheVariants.{Bound, Push}
+use Rattle.binding_map.specs.Bindings.{Binding}
+use Rattle.translator.specs.SharedSlots.{shared_slots}
 
 -- a u# that is declared as globally coherent
 abbrev pub declares_coherent : ℕ → Declaration → Bool

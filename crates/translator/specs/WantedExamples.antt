@@ -13,7 +13,10 @@ use Rattle.tpf_program.specs.Program.{Shader}
 use Rattle.tpf_program.specs.Spelling.{nothing}
 use Rattle.spirv_words.specs.BuiltIn.{GlobalInvocationId, LocalInvocationIndex}
 use Rattle.spirv_words.specs.Variables.{WantedBuffer}
-use Rattle.translator.specs.Bindings.{Register, Binding, Constant, Resource, Uav, Counter, Bound, Push}
+use Rattle.binding_map.specs.declared.register.Register.{Register}
+use Rattle.binding_map.specs.declared.register.Register.TheVariants.{Constant, Resource, Uav, Counter}
+use Rattle.binding_map.specs.declared.register.Place.TheVariants.{Bound, Push}
+use Rattle.binding_map.specs.Bindings.{Binding}
 use Rattle.translator.specs.Dispatch.{Dispatch}
 use Rattle.translator.specs.RunExamples.{views, where_zero}
 use Rattle.translator.specs.RowExamples.{run, words_of, ended}

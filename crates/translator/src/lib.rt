@@ -2,9 +2,9 @@
 //! come out, or the first broken rule.
 //!
 //! The definitions stand in `specs/`: `Means` says what a module owes to the program that it was
-//! translated from, `Bindings` what a binding map is, `Wanted` which variables a module has for them,
-//! `Input` which rules are broken. `Runs`, `Dispatch` and `SameRuns` say what whole dispatches do on both
-//! sides, `Shape` and `ModuleShape` which loops, switches and events each side has.
+//! translated from, under a binding map of `binding_map`, `Wanted` which variables a module has for
+//! both, `Input` which rules are broken. `Runs`, `Dispatch` and `SameRuns` say what whole dispatches do
+//! on both sides, `Shape` and `ModuleShape` which loops, switches and events each side has.
 #![tactic(auto)]
 
 mod emission;
