@@ -1,13 +1,13 @@
 -- What making and delivering a module comes to.
-use Rattle.std.proofs.Common.{◌≡◌, ℕ, ◌+◌, ◌<◌, ◌≤◌, ◌⊎◌, inl, inr, ⊎_elim, List, [], ◌∷◌, ◌++◌, length, take, Option, Some, None, Bool, true, false, refl, sym, ap, ◌∙◌, subst, arith}
-use Rattle.std.specs.Prelude.{min, Result, Ok, Err}
+use Rattle.std.proofs.Common.{◌≡◌, ℕ, ◌<◌, ◌≤◌, ◌⊎◌, inl, inr, ⊎_elim, List, [], length, take, Option, Some, None, Bool, true, false, refl, sym, ap, ◌∙◌, subst, arith}
+use Rattle.std.specs.Prelude.{Err}
 use Rattle.std.specs.Bool.{MatchBool}
 use Rattle.std.proofs.lemmas.List.{length-take, take_all}
 use Rattle.word_base.specs.declared.rule.Refusal.{Refusal}
 use Rattle.word_base.specs.declared.rule.Rule.TheVariants.{M1}
 use Rattle.word_base.specs.Rules.{refusal, comes_before, IsFirst, IsSound}
 use Rattle.outside.specs.Causes.{Rose}
-use Rattle.outside.specs.Told.{File, Output, Told, IsMissing, KeepsOutputs, file_of}
+use Rattle.outside.specs.Told.{File, Output, Told, IsMissing, KeepsOutputs}
 use Rattle.translator.specs.Input.{IsBroken}
 use Rattle.translator.specs.Means.{Means}
 use Rattle.word_base.specs.Words.{bytes_of}
@@ -15,7 +15,7 @@ use Rattle.compiler_cli.specs.declared.failure.Failure.{Failure}
 use Rattle.compiler_cli.specs.declared.failure.Failure.TheVariants as failure
 use Rattle.compiler_cli.specs.Job.{Job, is_stream}
 use Rattle.compiler_cli.specs.Streams.{FileCame, FromFile, most_read}
-use Rattle.compiler_cli.specs.Run.{IsFile, IsTooLarge, IsUntranslated, BreaksIn, IsMeant, IsFirstIn, IsRefusedBy, Makes, Outside, outside, Untouched, ToStream, ToDesk, NewOutput, Delivers, DeliversPart, Succeeds, Refuses, FaultsReading, FaultsWriting, Ends, IsRefused, status_of}
+use Rattle.compiler_cli.specs.Run.{IsFile, IsTooLarge, IsUntranslated, BreaksIn, IsMeant, IsFirstIn, Makes, Outside, outside, Untouched, ToStream, ToDesk, NewOutput, Delivers, DeliversPart, Succeeds, FaultsReading, FaultsWriting, Ends, IsRefused, status_of}
 
 -- the file that came
 came : (files : Option (List File)) (name bytes file : List ℕ) (left : Option (List ℕ)) → FileCame files name bytes left → IsFile files name file → bytes ≡ take most_read file

@@ -6,7 +6,7 @@ use Rattle.word_base.specs.declared.rule.Rule.TheVariants.{M1}
 use Rattle.word_base.specs.Rules.{refusal, IsFirst, IsSound}
 use Rattle.word_base.specs.Words.{bytes_of}
 use Rattle.outside.specs.Causes.{Rose, Gained, GainedPart}
-use Rattle.outside.specs.Told.{Told, File, Output, file_of, IsMissing, KeepsOutputs}
+use Rattle.outside.specs.Told.{Told, File, Output, file_of, IsMissing}
 use Rattle.translator.specs.Input.{IsBroken}
 use Rattle.translator.specs.Means.{Means}
 use Rattle.compiler_cli.specs.declared.failure.Failure.{Failure}

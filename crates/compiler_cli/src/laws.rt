@@ -6,6 +6,6 @@ use crate::failure::Status;
 /// Over a desk and sinks that count no faults no answer is `Fault` where the files are there. It does
 /// nothing when it runs.
 pub fn run_laws()
-    ensures quiet { (words : List (List ℕ)) (old new : Outside) (err err' : Stream) (status : Status) → IsQuiet old → IsQuiet new → HasInput words old.desk
-        → Answers words old new err err' status → status ≢ Status.Fault }
+    ensures quiet { (words : List (List ℕ)) (old new : Outside) (err err' : Stream) (status : Status)
+        → IsQuiet old → IsQuiet new → HasInput words old.desk → Answers words old new err err' status → status ≢ Status.Fault }
 {}

@@ -144,14 +144,7 @@ fn words_and_faults(rt: HostRuntime) -> Result<(), Fail> {
         ("-", [0, 0, 0], Status::Ok, true, false, ""),
         ("container", [0, 0, 0], Status::Ok, true, false, ""),
         ("-o m", [0, 0, 0], Status::Ok, false, true, ""),
-        (
-            "-o m container",
-            [0, 0, 0],
-            Status::Ok,
-            false,
-            true,
-            "",
-        ),
+        ("-o m container", [0, 0, 0], Status::Ok, false, true, ""),
         ("a b", [0, 0, 0], Status::Usage, false, false, USAGE),
         ("-o", [0, 0, 0], Status::Usage, false, false, USAGE),
         ("a b", [0, 0, 1], Status::Usage, false, false, ""),
@@ -179,30 +172,10 @@ fn words_and_faults(rt: HostRuntime) -> Result<(), Fail> {
 #[test]
 fn refusals(rt: HostRuntime) -> Result<(), Fail> {
     let rows: [(&[u32], usize, u32, &str); 4] = [
-        (
-            &SMALLEST,
-            6,
-            0x0200003E,
-            K3,
-        ),
-        (
-            &SMALLEST,
-            6,
-            0x01000000,
-            K4,
-        ),
-        (
-            &STRAIGHT,
-            13,
-            0x08000000,
-            K4_LATER,
-        ),
-        (
-            &NEGATED,
-            11,
-            0x8010001A,
-            K10,
-        ),
+        (&SMALLEST, 6, 0x0200003E, K3),
+        (&SMALLEST, 6, 0x01000000, K4),
+        (&STRAIGHT, 13, 0x08000000, K4_LATER),
+        (&NEGATED, 11, 0x8010001A, K10),
     ];
     for (program, place, word, line) in &rows {
         let mut tokens = Vec::from_slice(rt.alloc(), program)?;
@@ -225,29 +198,11 @@ fn refusals(rt: HostRuntime) -> Result<(), Fail> {
 fn lengths(rt: HostRuntime) -> Result<(), Fail> {
     let rows: [(usize, usize, u64, Status, &str); 6] = [
         (72, 4, 0, Status::Ok, ""),
-        (
-            71,
-            0,
-            0,
-            Status::Refused,
-            C4,
-        ),
-        (
-            0,
-            0,
-            0,
-            Status::Refused,
-            C1,
-        ),
+        (71, 0, 0, Status::Refused, C4),
+        (0, 0, 0, Status::Refused, C1),
         (0, 0, 1, Status::Fault, FAULT),
         (0, 0, 2, Status::Fault, FAULT),
-        (
-            0,
-            16_777_217,
-            0,
-            Status::Refused,
-            M1,
-        ),
+        (0, 16_777_217, 0, Status::Refused, M1),
     ];
     let module = bytes_of(rt.alloc(), &MODULE)?;
     for (count, zeros, call, status, line) in &rows {
@@ -293,14 +248,7 @@ fn longest_program(rt: HostRuntime) -> Result<(), Fail> {
     let rows: [(u32, u32, u64, Status, usize, &str); 3] = [
         (65_536, 5, 0, Status::Ok, 299_788, ""),
         (65_536, 5, 3, Status::Fault, 8192, FAULT),
-        (
-            65_537,
-            6,
-            0,
-            Status::Refused,
-            0,
-            M2,
-        ),
+        (65_537, 6, 0, Status::Refused, 0, M2),
     ];
     for (words, idle, call, status, written, line) in &rows {
         let tokens = storing(rt.alloc(), *words, *idle)?;

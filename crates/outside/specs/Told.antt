@@ -167,11 +167,14 @@ second_file = refl
 pub no_file : file_of (file (97 ∷ []) (1 ∷ []) ∷ []) (98 ∷ []) ≡ None
 no_file = refl
 
-pub last_output : with_last (output (97 ∷ []) (1 ∷ []) ∷ output (98 ∷ []) (2 ∷ []) ∷ []) (3 ∷ []) ≡ output (97 ∷ []) (1 ∷ []) ∷ output (98 ∷ []) (2 ∷ 3 ∷ []) ∷ []
+abbrev two_outputs : List ℕ → List Output
+two_outputs bytes = output (97 ∷ []) (1 ∷ []) ∷ output (98 ∷ []) bytes ∷ []
+
+pub last_output : with_last (two_outputs (2 ∷ [])) (3 ∷ []) ≡ two_outputs (2 ∷ 3 ∷ [])
 last_output = refl
 
-pub last_of_two : last_bytes (output (97 ∷ []) (1 ∷ []) ∷ output (98 ∷ []) (2 ∷ []) ∷ []) ≡ Some (2 ∷ [])
+pub last_of_two : last_bytes (two_outputs (2 ∷ [])) ≡ Some (2 ∷ [])
 last_of_two = refl
 
-pub emptied_last : with_empty_last (output (97 ∷ []) (1 ∷ []) ∷ output (98 ∷ []) (2 ∷ []) ∷ []) ≡ output (97 ∷ []) (1 ∷ []) ∷ output (98 ∷ []) [] ∷ []
+pub emptied_last : with_empty_last (two_outputs (2 ∷ [])) ≡ two_outputs []
 emptied_last = refl

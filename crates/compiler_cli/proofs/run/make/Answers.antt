@@ -1,4 +1,4 @@
-use Rattle.std.proofs.Common.{ℕ, List, [], length, ◌≤◌, arith, subst}
+use Rattle.std.proofs.Common.{ℕ, List, [], arith, subst}
 use Rattle.word_base.specs.Rules.{IsFirst, IsSound}
 use Rattle.translator.specs.Input.{IsBroken}
 use Rattle.translator.specs.Means.{Means}

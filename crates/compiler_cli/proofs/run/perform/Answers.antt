@@ -1,4 +1,4 @@
-use Rattle.std.proofs.Common.{◌≡◌, ℕ, List, inr, subst, ap}
+use Rattle.std.proofs.Common.{ℕ, List, inr, subst}
 use Rattle.word_base.specs.Words.{bytes_of}
 use Rattle.compiler_cli.specs.Command.{job_in}
 use Rattle.compiler_cli.specs.Run.{DeliversPart}

@@ -1,4 +1,4 @@
-use Rattle.std.proofs.Common.{◌≡◌, length, take, ◌-◌, ◌^◌, ◌<◌, ◌≤◌}
+use Rattle.std.proofs.Common.{◌≡◌, length, take, ◌-◌, ◌≤◌}
 use Rattle.outside.specs.Causes.{Gained}
 use Rattle.word_base.specs.Words.{bytes_of}
 use Rattle.compiler_cli.proofs.streams.write_words.Given as goal
