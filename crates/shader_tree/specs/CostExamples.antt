@@ -48,7 +48,7 @@ swapped =
     found 0 ∷ found 1 ∷ found 2 ∷ found 3 ∷ found 4 ∷ each first ∷ each second ∷
     each (λ c. target 0 c (20 + c)) ∷ each (λ c. target 1 c (30 + c)) ∷ [])
 
-pub swapped_costs : sums swapped ≡ cost 3731 742
+pub swapped_costs : sums swapped ≡ cost 3035 597
 swapped_costs = refl
 
 pub swapped_below : is_below 21 swapped ≡ true
@@ -63,7 +63,7 @@ divided =
     each (λ c. Set (30 + c) (Second Udiv (source 2 c) (source 3 c))) ∷
     each (λ c. target 0 c (20 + c)) ∷ each (λ c. target 1 c (30 + c)) ∷ [])
 
-pub divided_costs : sums divided ≡ cost 2900 568
+pub divided_costs : sums divided ≡ cost 2420 468
 divided_costs = refl
 
 pub divided_below : is_below 17 divided ≡ true
@@ -76,7 +76,7 @@ written c scratch = Write Temps (Word c) (Scratch scratch)
 abbrev pub inserted : Term
 inserted = all (each (λ c. Set (20 + c) (Insert (r0 c) (r0 c) (r0 c) (r0 c))) ∷ each (λ c. written c (20 + c)) ∷ [])
 
-pub inserted_costs : sums inserted ≡ cost 1020 204
+pub inserted_costs : sums inserted ≡ cost 636 124
 inserted_costs = refl
 
 pub inserted_below : is_below 11 inserted ≡ true
@@ -98,7 +98,7 @@ loaded = all (
     Set 0 (r0 0) ∷ Set 1 (r0 1) ∷ each (λ c. Set (20 + c) (Word 0)) ∷
     each (λ c. Guard (is_there c) (Load (20 + c) (Resource 0) (place c))) ∷ each (λ c. written c (20 + c)) ∷ [])
 
-pub loaded_costs : sums loaded ≡ cost 972 186
+pub loaded_costs : sums loaded ≡ cost 924 176
 loaded_costs = refl
 
 pub loaded_below : is_below 9 loaded ≡ true
@@ -108,7 +108,7 @@ loaded_below = refl
 abbrev pub stored : Term
 stored = all (Set 0 (r0 0) ∷ Set 1 (r0 1) ∷ each (λ c. Guard (is_there c) (Store (Uav 0) (place c) (r0 c))) ∷ [])
 
-pub stored_costs : sums stored ≡ cost 976 190
+pub stored_costs : sums stored ≡ cost 832 160
 stored_costs = refl
 
 pub stored_below : is_below 9 stored ≡ true

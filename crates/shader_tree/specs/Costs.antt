@@ -4,6 +4,8 @@
 -- use) is no node's.
 use Rattle.std.specs.Prelude.{ℕ, ◌+◌, ◌*◌, ◌≤◌, List, [], ◌∷◌}
 use Rattle.shader_tree.specs.declared.node.Node.{Node}
+use Rattle.shader_tree.specs.declared.node.Space.{Space}
+use Rattle.shader_tree.specs.declared.node.Space.TheVariants as space
 use Rattle.shader_tree.specs.Nodes.{Name}
 use Rattle.shader_tree.specs.Terms.{Term, term_by}
 use Rattle.shader_tree.specs.Terms as term
@@ -16,6 +18,12 @@ pub record Cost : Type 0 where
 abbrev pub cost : ℕ → ℕ → Cost
 cost words ids = record { words = words; ids = ids }
 
+-- Of a constant buffer: the index cut in two, a test against the words that are pushed, a chain of three indices, a load,
+-- a selection; of the others: the variable, a chain, a load.
+abbrev pub read_cost : Space → Cost
+read_cost (space.Constant slot) = cost 44 9
+read_cost other = cost 20 4
+
 -- A constant has 4 words; a variable of the function 5; a load 4, a store 3; an access chain 4 and one for each
 -- index; arithmetic and comparisons 5, a selection 6, an extended instruction 7; a label 2, a branch 2, a branch on a
 -- condition 4, a merge 3 or 4.
@@ -26,9 +34,7 @@ cost_at (term.Word w) = cost 4 1
 cost_at (term.Scratch n) = cost 9 2
 -- the input variable with its decoration and its place in the interface, a chain with the constant of its index, a load
 cost_at (term.Thread kind c) = cost 24 4
--- of a constant buffer: the index cut in two, a test against the words that are pushed, a chain of three indices, a
--- load, a selection; of the others: the variable, a chain, a load
-cost_at (term.Read space at) = cost 44 9
+cost_at (term.Read space at) = read_cost space
 cost_at (term.Length room) = cost 6 1
 -- the first bit from above: an extended instruction, a difference, a comparison, a selection
 cost_at (term.One op a) = cost 24 4
