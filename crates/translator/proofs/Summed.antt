@@ -34,12 +34,9 @@ by_slot true false place e = absurd (cc)
 by_slot false true place e = absurd (cc)
 by_slot false false place e = refl
 
-turned : (m n : ℕ) → nat_eq m n ≡ nat_eq n m
-turned m n = grind arith
-
 pub view_extent : (slot : ℕ) (place : Place)
     → MatchBool (not (is_null (nat_eq slot 0) place) && (nat_eq 0 slot || false)) (view_length (nat_eq 0 slot) < 2 ^ 30) (view_length (nat_eq 0 slot) ≡ 0)
-view_extent slot place = by_slot (nat_eq slot 0) (nat_eq 0 slot) place (turned slot 0)
+view_extent slot place = by_slot (nat_eq slot 0) (nat_eq 0 slot) place (grind arith)
 
 shared_extent : (b : Bool) → length {A = ℕ} (if b then 0 ∷ [] else []) ≡ (if nat_eq (if b then 1 else 0) 0 then 0 else (if b then 1 else 0))
 shared_extent true = refl
