@@ -1,0 +1,9 @@
+pub mod Building
+pub mod CostExamples
+pub mod ExampleParts
+pub mod Examples
+pub mod Folding
+pub mod Raises
+pub mod Raising
+pub mod Vectors
+pub mod Waits

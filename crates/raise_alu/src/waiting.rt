@@ -1,0 +1,230 @@
+ghost use Rattle.std.specs.Prelude.{◌≡◌, ◌+◌, ◌<◌, ◌≤◌, IsTrue, false, if◌then◌else◌, length};
+ghost use Rattle.shader_tree.specs.Nodes.{a_word, has};
+ghost use Rattle.shader_tree.specs.Terms.{Nothing};
+ghost use Rattle.raise_alu.specs.Vectors.{Outside};
+ghost use Rattle.raise_alu.specs.Building.{CanWrite, Grows, IsStep, is_double, is_single, is_written, seen, writes_first, writes_second};
+ghost use Rattle.raise_alu.specs.Waits.{is_read, are_read, known_target, first_reads, first_is_read, second_reads, second_is_read, stands_behind, second_is_late, now_of, behind_of, turn_nodes};
+
+use crate::operand::{Operand, Operands, Place};
+use crate::statement::{Steps, write_in_turn};
+use crate::vector::{Vector, in_mask, is_written, meets, selected};
+use shader_tree::Tree;
+use tpf_decode::Meaning;
+use tpf_program::Kind;
+
+/// The steps of a component that is not written.
+pub(crate) const NONE: Steps = Steps {
+    now: None,
+    behind: None,
+};
+
+/// The vector of a destination: only registers are written.
+fn target(operand: Operand) -> Vector
+    ensures { result ≡ known_target operand }
+{
+    match operand.argument.kind {
+        Kind::Temp | Kind::Indexable => operand.place.vector,
+        _ => Vector::Outside,
+    }
+}
+
+/// Whether a source reads, for the component `d`, what may be the component `c` of a vector.
+fn is_read(operand: Operand, to: Vector, c: u8, d: u8) -> bool
+    requires { d < 4 }
+    ensures { result ≡ is_read (seen to) c d operand }
+{
+    meets(
+        to,
+        c,
+        operand.place.vector,
+        selected(operand.argument.select, d),
+    )
+}
+
+/// Whether one of the sources does.
+fn are_read(meaning: Meaning, operands: Operands, to: Vector, c: u8, d: u8) -> bool
+    requires { d < 4 }
+    ensures { result ≡ are_read meaning operands (seen to) c d }
+{
+    let o = operands;
+    match meaning {
+        Meaning::One(_) => is_read(o.o1, to, c, d),
+        Meaning::Two(_) => is_read(o.o1, to, c, d) || is_read(o.o2, to, c, d),
+        Meaning::Three(_) => {
+            is_read(o.o1, to, c, d) || is_read(o.o2, to, c, d) || is_read(o.o3, to, c, d)
+        }
+        Meaning::Inserts => {
+            is_read(o.o1, to, c, d)
+                || is_read(o.o2, to, c, d)
+                || is_read(o.o3, to, c, d)
+                || is_read(o.o4, to, c, d)
+        }
+        Meaning::Pair(_) => is_read(o.o2, to, c, d) || is_read(o.o3, to, c, d),
+        Meaning::Swaps => {
+            is_read(o.o2, to, c, d) || is_read(o.o3, to, c, d) || is_read(o.o4, to, c, d)
+        }
+        _ => false,
+    }
+}
+
+/// Whether an instruction has two destinations.
+pub(crate) fn is_double(meaning: Meaning) -> bool
+    ensures { result ≡ is_double meaning }
+{
+    match meaning {
+        Meaning::Pair(_) | Meaning::Swaps => true,
+        _ => false,
+    }
+}
+
+/// Whether an instruction has one destination.
+fn is_single(meaning: Meaning) -> bool
+    ensures { result ≡ is_single meaning }
+{
+    match meaning {
+        Meaning::One(_) | Meaning::Two(_) | Meaning::Three(_) | Meaning::Inserts => true,
+        _ => false,
+    }
+}
+
+/// Whether an instruction writes a component of its first destination.
+pub(crate) fn writes_first(meaning: Meaning, operands: Operands, c: u8) -> bool
+    requires { c < 4 }
+    ensures { result ≡ writes_first meaning operands.instruction c }
+{
+    (is_single(meaning) || is_double(meaning)) && is_written(&operands.instruction.o0, c)
+}
+
+/// Whether an instruction writes a component of its second destination.
+pub(crate) fn writes_second(meaning: Meaning, operands: Operands, c: u8) -> bool
+    requires { c < 4 }
+    ensures { result ≡ writes_second meaning operands.instruction c }
+{
+    is_double(meaning) && is_written(&operands.instruction.o1, c)
+}
+
+/// Whether a component of the first destination is read for the component `d` of what is written later.
+fn first_reads(meaning: Meaning, operands: Operands, c: u8, d: u8) -> bool
+    requires { d < 4 }
+    ensures { result ≡ first_reads meaning operands c d }
+{
+    (c < d && writes_first(meaning, operands, d) || writes_second(meaning, operands, d))
+        && are_read(meaning, operands, target(operands.o0), c, d)
+}
+
+/// Whether a component of the first destination is read by what is written later.
+fn first_is_read(meaning: Meaning, operands: Operands, c: u8) -> bool
+    ensures { result ≡ first_is_read meaning operands c }
+{
+    first_reads(meaning, operands, c, 0)
+        || first_reads(meaning, operands, c, 1)
+        || first_reads(meaning, operands, c, 2)
+        || first_reads(meaning, operands, c, 3)
+}
+
+/// Whether a component of the second destination is read for a later one, `d`.
+fn second_reads(meaning: Meaning, operands: Operands, c: u8, d: u8) -> bool
+    requires { d < 4 }
+    ensures { result ≡ second_reads meaning operands c d }
+{
+    c < d
+        && writes_second(meaning, operands, d)
+        && are_read(meaning, operands, target(operands.o1), c, d)
+}
+
+/// Whether a component of the second destination is read for a later one.
+fn second_is_read(meaning: Meaning, operands: Operands, c: u8) -> bool
+    ensures { result ≡ second_is_read meaning operands c }
+{
+    second_reads(meaning, operands, c, 0)
+        || second_reads(meaning, operands, c, 1)
+        || second_reads(meaning, operands, c, 2)
+        || second_reads(meaning, operands, c, 3)
+}
+
+/// Whether a component of the second destination may be that of the first, which waits.
+fn stands_behind(meaning: Meaning, operands: Operands, c: u8) -> bool
+    requires { c < 4 }
+    ensures { result ≡ stands_behind meaning operands c }
+{
+    in_mask(operands.instruction.o0.select, c)
+        && first_is_read(meaning, operands, c)
+        && meets(target(operands.o0), c, target(operands.o1), c)
+}
+
+/// Whether a component of the second destination waits.
+fn second_is_late(meaning: Meaning, operands: Operands, c: u8) -> bool
+    requires { c < 4 }
+    ensures { result ≡ second_is_late meaning operands c }
+{
+    second_is_read(meaning, operands, c) || stands_behind(meaning, operands, c)
+}
+
+/// What is done for a component of a destination that is written: nothing where it names no register.
+fn turn(tree: &mut Tree, operand: Operand, c: u8, value: u32, scratch: u32, waits: bool) -> Steps
+    requires place { CanWrite tree.old.nodes (known_target operand) operand.place.number operand.place.kept }
+    requires value { IsTrue (has tree.old.nodes (a_word value)) }
+    requires component { c < 4 }
+    requires outside { seen (known_target operand) ≡ Outside → waits ≡ false }
+    requires room { length tree.old.nodes + turn_nodes (known_target operand) c ≤ tree.old.capacity }
+    ensures grows { Grows tree.old tree.new (turn_nodes (known_target operand) c) }
+    ensures now { IsStep tree.new.nodes result.now (now_of tree.old.nodes operand c value scratch waits) }
+    ensures behind { IsStep tree.new.nodes result.behind (behind_of tree.old.nodes operand c scratch waits) }
+{
+    let vector = target(operand);
+    if let Vector::Outside = vector {
+        return NONE;
+    }
+    let place = Place {
+        number: operand.place.number,
+        vector,
+        kept: operand.place.kept,
+    };
+    write_in_turn(tree, place, c, value, scratch, waits)
+}
+
+/// What is done for a component of the first destination.
+pub(crate) fn first_turn(
+    tree: &mut Tree,
+    meaning: Meaning,
+    operands: Operands,
+    c: u8,
+    value: u32,
+) -> Steps
+    requires place { CanWrite tree.old.nodes (known_target operands.o0) operands.o0.place.number operands.o0.place.kept }
+    requires value { IsTrue (has tree.old.nodes (a_word value)) }
+    requires component { c < 4 }
+    requires room { length tree.old.nodes + turn_nodes (known_target operands.o0) c ≤ tree.old.capacity }
+    ensures grows { Grows tree.old tree.new (turn_nodes (known_target operands.o0) c) }
+    ensures now { let now = now_of tree.old.nodes operands.o0 c value (10 + c) (first_is_read meaning operands c) in IsStep tree.new.nodes result.now (if writes_first meaning operands.instruction c then now else Nothing) }
+    ensures behind { let behind = behind_of tree.old.nodes operands.o0 c (10 + c) (first_is_read meaning operands c) in IsStep tree.new.nodes result.behind (if writes_first meaning operands.instruction c then behind else Nothing) }
+{
+    if !writes_first(meaning, operands, c) {
+        return NONE;
+    }
+    let waits = first_is_read(meaning, operands, c);
+    turn(tree, operands.o0, c, value, 10 + u32::from(c), waits)
+}
+
+/// What is done for a component of the second destination.
+pub(crate) fn second_turn(
+    tree: &mut Tree,
+    meaning: Meaning,
+    operands: Operands,
+    c: u8,
+    value: u32,
+) -> Steps
+    requires place { CanWrite tree.old.nodes (known_target operands.o1) operands.o1.place.number operands.o1.place.kept }
+    requires value { IsTrue (has tree.old.nodes (a_word value)) }
+    requires component { c < 4 }
+    requires room { length tree.old.nodes + turn_nodes (known_target operands.o1) c ≤ tree.old.capacity }
+    ensures grows { Grows tree.old tree.new (turn_nodes (known_target operands.o1) c) }
+    ensures now { let now = now_of tree.old.nodes operands.o1 c value (14 + c) (second_is_late meaning operands c) in IsStep tree.new.nodes result.now (if writes_second meaning operands.instruction c then now else Nothing) }
+    ensures behind { let behind = behind_of tree.old.nodes operands.o1 c (14 + c) (second_is_late meaning operands c) in IsStep tree.new.nodes result.behind (if writes_second meaning operands.instruction c then behind else Nothing) }
+{
+    if !writes_second(meaning, operands, c) {
+        return NONE;
+    }
+    let waits = second_is_late(meaning, operands, c);
+    turn(tree, operands.o1, c, value, 14 + u32::from(c), waits)
+}
