@@ -1,5 +1,6 @@
 -- What values, nodes and statements stand for while a tree grows.
-use Rattle.std.specs.Prelude.{◌≡◌, ℕ, ◌+◌, ◌*◌, ◌^◌, ◌<◌, ◌≤◌, nat_eq, if◌then◌else◌, not, Bool, true, false, ◌&&◌, ◌||◌, IsTrue, List, length, Option, Some, None, is_some}
+use Rattle.std.specs.Prelude.{◌≡◌, ℕ, ◌+◌, ◌*◌, ◌^◌, ◌<◌, ◌≤◌, nat_eq, if◌then◌else◌, not, Bool}
+use Rattle.std.specs.Prelude.{true, false, ◌&&◌, ◌||◌, IsTrue, List, length, Option, Some, None, is_some}
 use Rattle.tpf_decode.specs.declared.argument.Argument.{Argument}
 use Rattle.tpf_decode.specs.declared.argument.Kind.{Kind}
 use Rattle.tpf_decode.specs.declared.argument.Kind.TheVariants as kind

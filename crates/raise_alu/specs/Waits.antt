@@ -20,7 +20,8 @@ use Rattle.tpf_program.specs.Program.{Shader}
 use Rattle.shader_tree.specs.Values.{Spaces}
 use Rattle.raise_alu.specs.declared.statement.Component.{Component}
 use Rattle.raise_alu.specs.declared.statement.Components.{Components}
-use Rattle.raise_alu.specs.Building.{IsStep, step_of, seen, is_double, writes_first, writes_second, write_at, write_nodes, word_nodes, begin_nodes, source_nodes, indexed_by, sources_nodes, operation_nodes}
+use Rattle.raise_alu.specs.Building.{IsStep, step_of, seen, is_double, writes_first, writes_second, write_at}
+use Rattle.raise_alu.specs.Building.{write_nodes, word_nodes, begin_nodes, source_nodes, indexed_by, sources_nodes, operation_nodes}
 use Rattle.raise_alu.specs.Raising.{first_part, second_part, now, behind, followed, chained, indices}
 use Rattle.raise_alu.specs.Vectors.{Vector, meets, keeps_index}
 

@@ -63,7 +63,8 @@ pub fn scalar_operand(tree: &mut Tree, program: &Program, i: u32) -> Scalar
     requires room { length tree.old.nodes + 21 ≤ tree.old.capacity }
     ensures front { OfInstruction program.now.shader i (λ x. Makes tree.old.nodes tree.new.nodes AStatement result.front (scalar_front program.now.shader x)) }
     ensures word { OfInstruction program.now.shader i (λ x. Makes tree.old.nodes tree.new.nodes AWord result.word (scalar_word program.now.shader x)) }
-    ensures raises { OfInstruction program.now.shader i (λ x. RaisesScalar program.now.shader x (term_at tree.new.nodes result.front) (term_at tree.new.nodes result.word)) }
+    ensures raises { OfInstruction program.now.shader i (λ x. RaisesScalar program.now.shader x
+        (term_at tree.new.nodes result.front) (term_at tree.new.nodes result.word)) }
     ensures few { length tree.new.nodes ≤ length tree.old.nodes + 21 }
     ensures rest { tree.new ≡ record tree.old { nodes = tree.new.nodes } }
 {

@@ -105,7 +105,8 @@ fn keep_start(tree: &mut Tree, number: u32, kept: Kept, index: u32) -> u32
     requires zero { IsTrue (has tree.old.nodes (a_word kept.zero)) }
     requires room { length tree.old.nodes + 3 ≤ tree.old.capacity }
     ensures grows { Grows tree.old tree.new 3 }
-    ensures makes { let term = term_at tree.old.nodes in IsNode tree.new.nodes AStatement result (Set (start_scratch number) (Product (Pick (term kept.inside) (term index) (term kept.zero)) 4)) }
+    ensures makes { let term = term_at tree.old.nodes in
+        IsNode tree.new.nodes AStatement result (Set (start_scratch number) (Product (Pick (term kept.inside) (term index) (term kept.zero)) 4)) }
 {
     let vector = pick(tree, kept.inside, index, kept.zero);
     let start = expr(tree, Expr::Product { a: vector, by: 4 });
@@ -127,7 +128,9 @@ fn keep_both(tree: &mut Tree, number: u32, kept: Kept, kept_index: u32, index: u
     requires index { IsTrue (has tree.old.nodes (a_word index)) }
     requires room { length tree.old.nodes + 5 ≤ tree.old.capacity }
     ensures grows { Grows tree.old tree.new 5 }
-    ensures makes { let term = term_at tree.old.nodes in IsNode tree.new.nodes AStatement result (Then (Set (index_scratch number) (term index)) (Set (start_scratch number) (Product (Pick (term kept.inside) (term kept_index) (term kept.zero)) 4))) }
+    ensures makes { let term = term_at tree.old.nodes in
+        IsNode tree.new.nodes AStatement result (Then (Set (index_scratch number) (term index)) (Set (start_scratch number) (Product (Pick
+        (term kept.inside) (term kept_index) (term kept.zero)) 4))) }
 {
     let next = keep_start(tree, number, kept, kept_index);
     let first = stmt(

@@ -180,7 +180,8 @@ fn source_word(tree: &mut Tree, program: &Program, operand: Operand, component: 
     requires component { component < 4 }
     requires room { length tree.old.nodes + vector_nodes operand.place.vector ≤ tree.old.capacity }
     ensures grows { Grows tree.old tree.new (vector_nodes operand.place.vector) }
-    ensures makes { let a = operand.argument in StandsFor tree.new.nodes result (source_by a.kind (spaces_of program.now.shader) operand.place.number a component) }
+    ensures makes { let a = operand.argument in
+        StandsFor tree.new.nodes result (source_by a.kind (spaces_of program.now.shader) operand.place.number a component) }
 {
     match operand.argument.kind {
         Kind::Immediate => Value::Literal(immediate(&operand.argument, component)),

@@ -70,7 +70,8 @@ pub(crate) fn write(tree: &mut Tree, place: Place, component: u8, value: u32) ->
     requires component { component < 4 }
     requires room { length tree.old.nodes + write_nodes place.vector component ≤ tree.old.capacity }
     ensures grows { Grows tree.old tree.new (write_nodes place.vector component) }
-    ensures makes { let term = term_at tree.old.nodes in IsStep tree.new.nodes result (write_at place.vector (term place.kept.inside) place.number component (term value)) }
+    ensures makes { let term = term_at tree.old.nodes in
+        IsStep tree.new.nodes result (write_at place.vector (term place.kept.inside) place.number component (term value)) }
 {
     match place.vector {
         Vector::Outside => None,
@@ -119,8 +120,12 @@ pub(crate) fn write_in_turn(
     requires component { component < 4 }
     requires room { length tree.old.nodes + (write_nodes place.vector component + 2) ≤ tree.old.capacity }
     ensures grows { Grows tree.old tree.new (write_nodes place.vector component + 2) }
-    ensures now { let term = term_at tree.old.nodes in IsStep tree.new.nodes result.now (if waits then Set scratch (term value) else write_at place.vector (term place.kept.inside) place.number component (term value)) }
-    ensures behind { let term = term_at tree.old.nodes in IsStep tree.new.nodes result.behind (if waits then write_at place.vector (term place.kept.inside) place.number component (Scratch scratch) else Nothing) }
+    ensures now { let term = term_at tree.old.nodes in
+        IsStep tree.new.nodes result.now (if waits then Set scratch (term value) else write_at place.vector
+        (term place.kept.inside) place.number component (term value)) }
+    ensures behind { let term = term_at tree.old.nodes in
+        IsStep tree.new.nodes result.behind (if waits then write_at place.vector (term place.kept.inside) place.number component
+        (Scratch scratch) else Nothing) }
 {
     if !waits {
         return Steps {

@@ -196,8 +196,10 @@ pub(crate) fn first_turn(
     requires component { c < 4 }
     requires room { length tree.old.nodes + turn_nodes (known_target operands.o0) c ≤ tree.old.capacity }
     ensures grows { Grows tree.old tree.new (turn_nodes (known_target operands.o0) c) }
-    ensures now { let now = now_of tree.old.nodes operands.o0 c value (10 + c) (first_is_read meaning operands c) in IsStep tree.new.nodes result.now (if writes_first meaning operands.instruction c then now else Nothing) }
-    ensures behind { let behind = behind_of tree.old.nodes operands.o0 c (10 + c) (first_is_read meaning operands c) in IsStep tree.new.nodes result.behind (if writes_first meaning operands.instruction c then behind else Nothing) }
+    ensures now { let now = now_of tree.old.nodes operands.o0 c value (10 + c) (first_is_read meaning operands c) in
+        IsStep tree.new.nodes result.now (if writes_first meaning operands.instruction c then now else Nothing) }
+    ensures behind { let behind = behind_of tree.old.nodes operands.o0 c (10 + c) (first_is_read meaning operands c) in
+        IsStep tree.new.nodes result.behind (if writes_first meaning operands.instruction c then behind else Nothing) }
 {
     if !writes_first(meaning, operands, c) {
         return NONE;
@@ -219,8 +221,10 @@ pub(crate) fn second_turn(
     requires component { c < 4 }
     requires room { length tree.old.nodes + turn_nodes (known_target operands.o1) c ≤ tree.old.capacity }
     ensures grows { Grows tree.old tree.new (turn_nodes (known_target operands.o1) c) }
-    ensures now { let now = now_of tree.old.nodes operands.o1 c value (14 + c) (second_is_late meaning operands c) in IsStep tree.new.nodes result.now (if writes_second meaning operands.instruction c then now else Nothing) }
-    ensures behind { let behind = behind_of tree.old.nodes operands.o1 c (14 + c) (second_is_late meaning operands c) in IsStep tree.new.nodes result.behind (if writes_second meaning operands.instruction c then behind else Nothing) }
+    ensures now { let now = now_of tree.old.nodes operands.o1 c value (14 + c) (second_is_late meaning operands c) in
+        IsStep tree.new.nodes result.now (if writes_second meaning operands.instruction c then now else Nothing) }
+    ensures behind { let behind = behind_of tree.old.nodes operands.o1 c (14 + c) (second_is_late meaning operands c) in
+        IsStep tree.new.nodes result.behind (if writes_second meaning operands.instruction c then behind else Nothing) }
 {
     if !writes_second(meaning, operands, c) {
         return NONE;

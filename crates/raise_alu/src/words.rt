@@ -76,7 +76,8 @@ fn four_sources(
     requires d { IsOperand tree.old.nodes (spaces_of program.now.shader) d }
     requires few { AreFew (spaces_of program.now.shader) }
     requires component { component < 4 }
-    requires room { length tree.old.nodes + (source_nodes a.argument + source_nodes b.argument + source_nodes c.argument + source_nodes d.argument) ≤ tree.old.capacity }
+    requires room { length tree.old.nodes + (source_nodes a.argument + source_nodes b.argument + source_nodes c.argument + source_nodes d.argument)
+        ≤ tree.old.capacity }
     ensures grows { Grows tree.old tree.new (source_nodes a.argument + source_nodes b.argument + source_nodes c.argument + source_nodes d.argument) }
     ensures a { StandsFor tree.new.nodes result.0 (source (spaces_of program.now.shader) a.place.number a.argument component) }
     ensures b { StandsFor tree.new.nodes result.1 (source (spaces_of program.now.shader) b.place.number b.argument component) }
@@ -95,7 +96,8 @@ fn one(tree: &mut Tree, program: &Program, op: Unary, a: Operand, component: u8)
     requires component { component < 4 }
     requires room { length tree.old.nodes + (source_nodes a.argument + 2) ≤ tree.old.capacity }
     ensures grows { Grows tree.old tree.new (source_nodes a.argument + 2) }
-    ensures makes { let word = λ (o : Operand). source (spaces_of program.now.shader) o.place.number o.argument component in IsNode tree.new.nodes AWord result (unary_of op (word a)) }
+    ensures makes { let word = λ (o : Operand). source (spaces_of program.now.shader) o.place.number o.argument component in
+        IsNode tree.new.nodes AWord result (unary_of op (word a)) }
 {
     let word = source(tree, program, a, component);
     let value = unary(tree, op, word);
@@ -110,7 +112,8 @@ fn two(tree: &mut Tree, program: &Program, op: Binary, a: Operand, b: Operand, c
     requires component { component < 4 }
     requires room { length tree.old.nodes + (source_nodes a.argument + source_nodes b.argument + 3) ≤ tree.old.capacity }
     ensures grows { Grows tree.old tree.new (source_nodes a.argument + source_nodes b.argument + 3) }
-    ensures makes { let word = λ (o : Operand). source (spaces_of program.now.shader) o.place.number o.argument component in IsNode tree.new.nodes AWord result (binary_of op (word a) (word b)) }
+    ensures makes { let word = λ (o : Operand). source (spaces_of program.now.shader) o.place.number o.argument component in
+        IsNode tree.new.nodes AWord result (binary_of op (word a) (word b)) }
 {
     let (first, second) = two_sources(tree, program, a, b, component);
     binary(tree, op, first, second)
@@ -133,7 +136,8 @@ fn three(
     requires component { component < 4 }
     requires room { length tree.old.nodes + (source_nodes a.argument + source_nodes b.argument + source_nodes c.argument + 4) ≤ tree.old.capacity }
     ensures grows { Grows tree.old tree.new (source_nodes a.argument + source_nodes b.argument + source_nodes c.argument + 4) }
-    ensures makes { let word = λ (o : Operand). source (spaces_of program.now.shader) o.place.number o.argument component in IsNode tree.new.nodes AWord result (ternary_of op (word a) (word b) (word c)) }
+    ensures makes { let word = λ (o : Operand). source (spaces_of program.now.shader) o.place.number o.argument component in
+        IsNode tree.new.nodes AWord result (ternary_of op (word a) (word b) (word c)) }
 {
     let (first, second, third) = three_sources(tree, program, a, b, c, component);
     ternary(tree, op, first, second, third)
@@ -155,9 +159,11 @@ fn inserts(
     requires d { IsOperand tree.old.nodes (spaces_of program.now.shader) d }
     requires few { AreFew (spaces_of program.now.shader) }
     requires component { component < 4 }
-    requires room { length tree.old.nodes + (source_nodes a.argument + source_nodes b.argument + source_nodes c.argument + source_nodes d.argument + 5) ≤ tree.old.capacity }
+    requires room { length tree.old.nodes + (source_nodes a.argument + source_nodes b.argument + source_nodes c.argument + source_nodes d.argument + 5)
+        ≤ tree.old.capacity }
     ensures grows { Grows tree.old tree.new (source_nodes a.argument + source_nodes b.argument + source_nodes c.argument + source_nodes d.argument + 5) }
-    ensures makes { let word = λ (o : Operand). source (spaces_of program.now.shader) o.place.number o.argument component in IsNode tree.new.nodes AWord result (insert_of (word a) (word b) (word c) (word d)) }
+    ensures makes { let word = λ (o : Operand). source (spaces_of program.now.shader) o.place.number o.argument component in
+        IsNode tree.new.nodes AWord result (insert_of (word a) (word b) (word c) (word d)) }
 {
     let (width, offset, inserted, base) = four_sources(tree, program, a, b, c, d, component);
     insert(tree, width, offset, inserted, base)
@@ -178,8 +184,10 @@ fn paired(
     requires component { component < 4 }
     requires room { length tree.old.nodes + (source_nodes a.argument + source_nodes b.argument + 4) ≤ tree.old.capacity }
     ensures grows { Grows tree.old tree.new (source_nodes a.argument + source_nodes b.argument + 4) }
-    ensures first { let word = λ (o : Operand). source (spaces_of program.now.shader) o.place.number o.argument component in IsNode tree.new.nodes AWord result.0 (first_of op (word a) (word b)) }
-    ensures second { let word = λ (o : Operand). source (spaces_of program.now.shader) o.place.number o.argument component in IsNode tree.new.nodes AWord result.1 (second_of op (word a) (word b)) }
+    ensures first { let word = λ (o : Operand). source (spaces_of program.now.shader) o.place.number o.argument component in
+        IsNode tree.new.nodes AWord result.0 (first_of op (word a) (word b)) }
+    ensures second { let word = λ (o : Operand). source (spaces_of program.now.shader) o.place.number o.argument component in
+        IsNode tree.new.nodes AWord result.1 (second_of op (word a) (word b)) }
 {
     let (first, second) = two_sources(tree, program, a, b, component);
     pair(tree, op, first, second)
@@ -201,8 +209,10 @@ fn swaps(
     requires component { component < 4 }
     requires room { length tree.old.nodes + (source_nodes on.argument + source_nodes a.argument + source_nodes b.argument + 6) ≤ tree.old.capacity }
     ensures grows { Grows tree.old tree.new (source_nodes on.argument + source_nodes a.argument + source_nodes b.argument + 6) }
-    ensures first { let word = λ (o : Operand). source (spaces_of program.now.shader) o.place.number o.argument component in IsNode tree.new.nodes AWord result.0 (chosen (word on) (word a) (word b)) }
-    ensures second { let word = λ (o : Operand). source (spaces_of program.now.shader) o.place.number o.argument component in IsNode tree.new.nodes AWord result.1 (chosen (word on) (word b) (word a)) }
+    ensures first { let word = λ (o : Operand). source (spaces_of program.now.shader) o.place.number o.argument component in
+        IsNode tree.new.nodes AWord result.0 (chosen (word on) (word a) (word b)) }
+    ensures second { let word = λ (o : Operand). source (spaces_of program.now.shader) o.place.number o.argument component in
+        IsNode tree.new.nodes AWord result.1 (chosen (word on) (word b) (word a)) }
 {
     let (truth, first, second) = three_sources(tree, program, on, a, b, component);
     swapped(tree, truth, first, second)
