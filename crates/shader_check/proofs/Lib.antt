@@ -1,0 +1,13 @@
+mod Least
+mod Walk
+mod Places
+mod Sums
+mod FirstDeclared
+mod FirstUsed
+mod Before
+mod NestedCounts
+mod NestedFinds
+mod NestedScans
+mod NestedStacks
+mod NestedWalks
+mod NestedEnds

@@ -1,0 +1,2 @@
+pub mod FirstRefusals
+pub mod Nested
