@@ -1,3 +1,4 @@
 mod Rows
 mod Sharing
 mod Stored
+mod KeyWalks

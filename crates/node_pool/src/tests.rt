@@ -1,7 +1,7 @@
 ghost use Rattle.std.specs.Prelude.{◌≡◌, ◌+◌, ◌<◌, ◌∷◌, [], ◌++◌, List, ℕ, length, slice_get, Some, IfOk};
 ghost use Rattle.node_pool.specs.declared.tests.Node.{Node};
 
-use crate::Pool;
+use crate::{Key, Keys, Pool};
 use std::alloc::Global;
 use std::marker::Model;
 use std::test::Fail;
@@ -100,4 +100,61 @@ fn a_pool_may_have_no_place(rt: HostRuntime) -> Result<(), Fail> {
 fn a_region_too_large_is_refused(rt: HostRuntime) {
     let huge: Result<Pool<[u64; 0x1000_0001]>, NoMemory> = Pool::make(rt.alloc(), u32::MAX);
     assert!(rt; huge.is_err());
+}
+
+fn key(kind: u32, number: u32) -> Key
+    ensures { (result.kind ≡ kind) × (result.number ≡ number) }
+{
+    Key { kind, number }
+}
+
+/// The index of a key, and 99 for none, where each that is not there is added.
+fn index_of(keys: &mut Keys, kind: u32, number: u32, adds: bool) -> u32 {
+    match keys.find(key(kind, number)) {
+        Some(i) => i,
+        None if adds && keys.len() < keys.capacity() => keys.add(key(kind, number)),
+        None => 99,
+    }
+}
+
+fn key_at(keys: &Keys, i: u32) -> Key {
+    if i < keys.len() {
+        keys.at(i)
+    } else {
+        key(99, 99)
+    }
+}
+
+/// What is sought, whether it is added where it is not there, and its index. The keys (0, 0x6BDDB0DB) and
+/// (1, 0) have one path, and the two behind them differ in one bit.
+#[test]
+fn keys_are_found_by_both_words(rt: HostRuntime) -> Result<(), Fail> {
+    let rows = [
+        (0, 0, false, 99),
+        (7, 5, true, 0),
+        (5, 7, false, 99),
+        (7, 6, true, 1),
+        (6, 5, true, 2),
+        (7, 5, true, 0),
+        (0, 0x6BDD_B0DB, true, 3),
+        (1, 0, true, 4),
+        (0, 0xFFFF_0000, true, 5),
+        (0, 0x7FFF_0000, true, 6),
+        (0, 0xFFFF_0000, false, 5),
+        (1, 0, false, 4),
+        (0, 0x6BDD_B0DB, false, 3),
+        (1, 1, true, 99),
+    ];
+    let mut keys = Keys::make(rt.alloc(), 7)?;
+    for (kind, number, adds, index) in rows {
+        assert_eq!(rt; index_of(&mut keys, kind, number, adds), index);
+    }
+    assert_eq!(rt;
+        (key_at(&keys, 2), key_at(&keys, 6)),
+        (key(6, 5), key(0, 0x7FFF_0000))
+    );
+    keys.clear();
+    assert_eq!(rt; index_of(&mut keys, 7, 5, false), 99);
+    assert_eq!(rt; (index_of(&mut keys, 7, 6, true), keys.capacity()), (0, 7));
+    Ok(())
 }

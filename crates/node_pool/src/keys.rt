@@ -1,0 +1,110 @@
+ghost use Rattle.std.specs.Prelude.{◌≡◌, ◌<◌, ◌≤◌, [], ◌∷◌, ◌++◌, length, slice_get, Some, Contains, IfSome, IfNone, IfOk};
+ghost use Rattle.node_pool.specs.Keys.{keyed, AreDistinct};
+
+use crate::key::Key;
+use crate::key_tree::{Link, plant, seek};
+use crate::pool::Pool;
+use std::alloc::Global;
+use std::marker::Model;
+use word_base::NoMemory;
+
+/// Distinct keys in the order in which they were added, with a fixed capacity. Each has an index, a `u32`
+/// counted from 0, and is found in at most 32 steps and one more for each kind of key.
+///
+/// Only `make` takes memory.
+#[derive(Drop)]
+pub struct Keys {
+    keys: Pool<Key>,
+    links: Pool<Link>,
+}
+
+impl Model for Keys {
+    ghost use Rattle.std.specs.Prelude.{◌≡◌};
+    ghost use Rattle.node_pool.specs.Pools.{Pooled, pooled, pooled_code};
+    ghost use Rattle.node_pool.specs.declared.key.Key.{Key};
+    ghost use Rattle.node_pool.specs.Keys.{key_code, AreDistinct};
+    ghost use Rattle.node_pool.specs.KeyTrees.{IsTree};
+
+    ghost Value = { Pooled Key };
+
+    ghost coded = { pooled_code key_code };
+
+    ghost view = { λ k. pooled k.keys.list k.keys.capacity };
+
+    ghost invariant = { λ k. record {
+      distinct : AreDistinct k.keys.list;
+      tree : IsTree k.keys.list k.links.list;
+      room : k.links.capacity ≡ k.keys.capacity;
+    } };
+}
+
+impl Keys {
+    /// Makes an empty list with room for `capacity` keys.
+    ///
+    /// # Errors
+    ///
+    /// `NoMemory` where the memory for them cannot be had.
+    pub fn make(alloc: Global, capacity: u32) -> Result<Keys, NoMemory>
+        ensures { IfOk result (λ k. k ≡ keyed [] capacity) }
+    {
+        let keys = Pool::make(alloc, capacity)?;
+        let links = Pool::make(alloc, capacity)?;
+        Ok(Keys { keys, links })
+    }
+
+    /// Returns the number of keys.
+    pub fn len(&self) -> u32
+        ensures len { result ≡ length self.now.list }
+        ensures within { result ≤ self.now.capacity }
+        ensures distinct { AreDistinct self.now.list }
+    {
+        self.keys.len()
+    }
+
+    /// Returns the number of keys that there is room for.
+    pub fn capacity(&self) -> u32
+        ensures capacity { result ≡ self.now.capacity }
+        ensures within { length self.now.list ≤ result }
+    {
+        self.keys.capacity()
+    }
+
+    /// Returns the key with the index `i`.
+    pub fn at(&self, i: u32) -> Key
+        requires { i < length self.now.list }
+        ensures { slice_get self.now.list i ≡ Some result }
+    {
+        self.keys.get(i)
+    }
+
+    /// Returns the index of a key, and `None` exactly where it was not added.
+    pub fn find(&self, key: Key) -> Option<u32>
+        ensures found { IfSome result (λ i. slice_get self.now.list i ≡ Some key) }
+        ensures absent { IfNone result (Contains self.now.list key → ⊥) }
+    {
+        if self.keys.len() == 0 {
+            return None;
+        }
+        seek(&self.keys, &self.links, key)
+    }
+
+    /// Adds a key at the end, and returns its index. It must not be there, and there must be room for it.
+    pub fn add(&mut self, key: Key) -> u32
+        requires absent { Contains self.old.list key → ⊥ }
+        requires room { length self.old.list < self.old.capacity }
+        ensures id { result ≡ length self.old.list }
+        ensures list { self.new.list ≡ self.old.list ++ key ∷ [] }
+        ensures capacity { self.new.capacity ≡ self.old.capacity }
+    {
+        plant(&self.keys, &mut self.links, key);
+        self.keys.push(key)
+    }
+
+    /// Takes all keys out. The capacity stays.
+    pub fn clear(&mut self)
+        ensures { self.new ≡ keyed [] self.old.capacity }
+    {
+        self.keys.clear();
+        self.links.clear();
+    }
+}
