@@ -11,12 +11,9 @@ pub mod Reach
 pub mod Bounds
 pub mod WellSpelled
 pub mod Passes
-pub mod Refused
 pub mod Items
 pub mod SameItems
 pub mod Walk
-pub mod Sound
-pub mod LineSums
 pub mod Each
 pub mod Pieces
 pub mod Behind
@@ -26,7 +23,9 @@ pub mod Kept
 pub mod Left
 pub mod Carried
 pub mod Nested
-pub mod LineNests
-pub mod LineUses
 pub mod Threads
 pub mod Reached
+pub mod CaseLists
+pub mod CaseTable
+pub mod CaseWords
+pub mod Ordered

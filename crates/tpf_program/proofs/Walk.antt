@@ -1,7 +1,8 @@
 -- A program is read part by part.
-use Rattle.std.proofs.Common.{◌≡◌, ℕ, ◌+◌, ◌-◌, ◌<◌, ◌≤◌, List, [], ◌∷◌, ◌++◌, length, take, drop, Some, None, refl, sym, ap, ◌∙◌, subst, arith, append_assoc, append-nil, length-append}
+use Rattle.std.proofs.Common.{◌≡◌, ℕ, ◌+◌, ◌*◌, ◌-◌, ◌<◌, ◌≤◌, List, [], ◌∷◌, ◌++◌, length, take, drop, Some, None, refl, sym, ap, ◌∙◌, subst, arith, append_assoc, append-nil, length-append}
 use Rattle.std.specs.Prelude.{slice_range, slice_index, zero, suc, is_some, nat_eq, nat_lt, ◌||◌, not, Bool, true, false, if◌then◌else◌}
 use Rattle.std.proofs.lemmas.Bool.Decides.{nat_tests}
+use Rattle.std.proofs.lemmas.List.Sums.{sum_by-append}
 use Rattle.word_base.specs.declared.rule.Refusal.{Refusal}
 use Rattle.word_base.specs.declared.rule.Rule.TheVariants.{K1, K2, M2}
 use Rattle.word_base.specs.Rules.{first, refusal}
@@ -14,6 +15,10 @@ use Rattle.tpf_program.specs.Program.{Shader}
 use Rattle.tpf_program.specs.Spelling.{Item, Declares, Types, Does, Lists, Skips, SpellsItem, SpellsItems, Spells, listed, declarations_in, instructions_in, constants_in, typed_in}
 use Rattle.tpf_program.specs.Faults.{body_faults, program_faults}
 use Rattle.tpf_program.specs.Reading.{IsReadTo}
+use Rattle.tpf_program.specs.Cases.{is_any_case}
+use Rattle.tpf_program.specs.Ends.{count, means}
+use Rattle.tpf_program.proofs.CaseWords.{cases_fit}
+use Rattle.tpf_program.proofs.Ordered.{declared_at, done_at, places_more}
 use Rattle.tpf_program.proofs.Reach.{none_first, part_passed}
 
 pub record IsWalked (words : List ℕ) (n at : ℕ) (p : Shader) : Type 0 where
@@ -87,6 +92,10 @@ few_instructions xs ys zs at end e h k l = omega (arith, ap length e, length-app
 few_constants : (xs ys zs : List ℕ) (at end : ℕ) → ys ≡ xs ++ zs → length xs ≤ at → at + length zs ≤ end → length ys ≤ end
 few_constants xs ys zs at end e h k = omega (arith, ap length e, length-append xs zs)
 
+more_cases : (xs ys zs : List Instruction) (at end : ℕ) → ys ≡ xs ++ zs → 3 * count Base is_any_case xs ≤ at → at + 3 * count Base is_any_case zs ≤ end → 3 * count Base is_any_case ys ≤ end
+more_cases xs ys zs at end e h k =
+    omega (arith, h, k, ap (count Base is_any_case) e, sum_by-append (λ i. if means Base is_any_case i then 1 else 0) xs zs)
+
 one_declared : (x : Item) → length (declarations_in (x ∷ [])) ≤ 1
 one_declared (Declares d) = omega arith
 one_declared (Types d view) = omega arith
@@ -121,6 +130,9 @@ part_read words at end x p q h k fits r s a inside most none = record {
   few_declarations = few p.declarations q.declarations (declarations_in (x ∷ [])) at end a.declarations r.few_declarations (one_declared x) k;
   few_instructions = few_instructions p.instructions q.instructions (instructions_in (x ∷ [])) at end a.instructions r.few_instructions (one_instruction x) k;
   few_constants = few_constants p.constants q.constants (constants_in (x ∷ [])) at end a.constants r.few_constants (omega (arith, few_words x at (slice_range words at end) s, length-range words at end fits));
+  few_cases = more_cases p.instructions q.instructions (instructions_in (x ∷ [])) at end a.instructions r.few_cases (omega (arith, cases_fit x at (slice_range words at end) s, length-range words at end fits));
+  declared = places_more (λ d. d.place) p.declarations q.declarations (declarations_in (x ∷ [])) at end a.declarations k r.declared (declared_at at x (slice_range words at end) s);
+  done = places_more (λ i. i.place) p.instructions q.instructions (instructions_in (x ∷ [])) at end a.instructions k r.done (done_at at x (slice_range words at end) s);
   faults = subst (λ n. body_faults Base 0 2 (slice_range words 2 n) ≡ body_faults Base 0 end (slice_range words end n)) (sym a.words)
       (r.faults ∙ part_passed words at end p.words x k inside most s none);
 }
@@ -174,6 +186,9 @@ none_walked words n h = record {
     few_declarations = omega arith;
     few_instructions = omega arith;
     few_constants = omega arith;
+    few_cases = omega arith;
+    declared = λ k d e. cc;
+    done = λ k i e. cc;
     faults = refl;
   };
 }

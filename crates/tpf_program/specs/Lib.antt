@@ -2,7 +2,6 @@ pub mod Program
 pub mod Spelling
 pub mod Declarations
 pub mod Faults
-pub mod StraightLine
 pub mod Reading
 pub mod Sizes
 pub mod Values
@@ -14,9 +13,13 @@ pub mod Holding
 pub mod Ends
 pub mod Uses
 pub mod Nesting
+pub mod ExampleParts
+pub mod Cases
+pub mod Steps
+pub mod Kept
+pub mod KeptCases
 pub mod Bytecode
 pub mod Extents
-pub mod ExampleParts
 pub mod RuleExamples
 pub mod FlowExamples
 pub mod ValueExamples

@@ -1,6 +1,5 @@
 -- What the calls of the reader give.
-use Rattle.std.specs.Prelude.{◌≡◌, ℕ, ◌+◌, ◌≤◌, nat_lt, not, ◌&&◌, if◌then◌else◌, Bool, true, false, IsTrue, List, [], ◌∷◌, ◌++◌, length, drop, slice_range}
-use Rattle.std.specs.List.{list_all, list_any}
+use Rattle.std.specs.Prelude.{◌≡◌, ℕ, ◌+◌, ◌*◌, ◌≤◌, List, ◌++◌, length, drop, slice_range}
 use Rattle.tpf_decode.specs.declared.argument.Argument.{Argument}
 use Rattle.tpf_decode.specs.declared.argument.Role.{Role}
 use Rattle.tpf_decode.specs.Profiles.{Base}
@@ -9,12 +8,10 @@ use Rattle.tpf_decode.specs.Spelling.{SpellsOperands, further_words}
 use Rattle.tpf_decode.specs.Refusals.{Rest, no_more, behind_words, operands_faults}
 use Rattle.tpf_program.specs.declared.item.Piece.{Piece}
 use Rattle.tpf_program.specs.declared.item.Piece.TheVariants as piece
-use Rattle.tpf_program.specs.declared.declaration.Declared.{Declared}
-use Rattle.tpf_program.specs.declared.instruction.Instruction.{Instruction}
-use Rattle.tpf_program.specs.Program.{Shader}
-use Rattle.tpf_program.specs.Declarations.{same_thing, is_within, is_past_limit, has_sizes, declaration_refusals}
+use Rattle.tpf_program.specs.Program.{Shader, AreBefore}
+use Rattle.tpf_program.specs.Cases.{is_any_case}
+use Rattle.tpf_program.specs.Ends.{count}
 use Rattle.tpf_program.specs.Faults.{body_faults}
-use Rattle.tpf_program.specs.StraightLine.{is_built, is_built_in, returns, ReturnsAtEnd}
 use Rattle.tpf_program.specs.Spelling.{nothings, Item, Declares, Does, Lists, Skips, SpellsItem, SpellsItems, declarations_in, instructions_in, constants_in, typed_in}
 
 -- Words spell operands in these roles, which stand first in the five places; the other places have the null operand.
@@ -34,8 +31,8 @@ IsPiece words at end (piece.Instruction i) = SpellsItem Base at (Does i) (slice_
 IsPiece words at end piece.Constants = SpellsItem Base at (Lists at (slice_range words (at + 2) end)) (slice_range words at end)
 IsPiece words at end piece.Nothing = (kind : ℕ) × (values : List ℕ) × SpellsItem Base at (Skips kind values) (slice_range words at end)
 
--- The program up to a place: its parts are those of the words up to there, and break no rule. No list has more entries than there
--- are words.
+-- The program up to a place: its parts are those of the words up to there, stand there, and break no rule. No list has more entries
+-- than there are words, and a case has three of them.
 pub record IsReadTo (words : List ℕ) (at : ℕ) (p : Shader) : Type 0 where
   pub items : List Item
   pub parts : SpellsItems Base 2 items (slice_range words 2 at)
@@ -46,37 +43,7 @@ pub record IsReadTo (words : List ℕ) (at : ℕ) (p : Shader) : Type 0 where
   pub few_declarations : length p.declarations ≤ at
   pub few_instructions : length p.instructions ≤ at
   pub few_constants : length p.constants ≤ at
+  pub few_cases : 3 * count Base is_any_case p.instructions ≤ at
+  pub declared : AreBefore (λ d. d.place) p.declarations at
+  pub done : AreBefore (λ i. i.place) p.instructions at
   pub faults : body_faults Base 0 2 (slice_range words 2 p.words) ≡ body_faults Base 0 at (slice_range words at p.words)
-
--- A program has the form.
-pub record HasForm (p : Shader) : Type 0 where
-  pub declarations : IsTrue (list_all (λ d. is_built d.what) p.declarations)
-  pub instructions : IsTrue (list_all (is_built_in p.declarations) p.instructions)
-  pub end : ReturnsAtEnd p.instructions
-  pub sound : declaration_refusals 0 p ≡ []
-
--- The last instruction is the only `ret`.
-abbrev pub is_nil : List Instruction → Bool
-is_nil [] = true
-is_nil (i ∷ rest) = false
-
-abbrev pub ends_once : List Instruction → Bool
-ends_once [] = false
-ends_once (i ∷ rest) = if returns i then is_nil rest else ends_once rest
-
--- A declaration is the only one of its thing so far, stands before the instructions, and is within its own limits.
-abbrev pub stands_alone : List Instruction → List Declared → Declared → Bool
-stands_alone instructions before d =
-    not (list_any (λ e. same_thing e.what d.what) before)
-    && (not (list_any (λ i. nat_lt i.place d.place) instructions) && (is_within d.what && has_sizes d.what))
-
--- A declaration breaks no rule behind those before it.
-abbrev pub is_sound_behind : List Instruction → List Declared → Declared → Bool
-is_sound_behind instructions before d =
-    not (list_any (λ e. same_thing e.what d.what) before)
-    && (not (list_any (λ i. nat_lt i.place d.place) instructions)
-    && (not (is_past_limit 0 before d.what) && has_sizes d.what))
-
-abbrev pub are_sound_behind : List Instruction → List Declared → List Declared → Bool
-are_sound_behind instructions before [] = true
-are_sound_behind instructions before (d ∷ rest) = is_sound_behind instructions before d && are_sound_behind instructions (before ++ d ∷ []) rest

@@ -2,14 +2,14 @@
 //! spell, and what a lane of them does.
 //!
 //! The definitions stand in `specs/`: `Program` for a program as contracts see it, `Spelling` for the
-//! words that spell it, `Faults` for the rules that the words break, `Declarations` for the rules on
-//! declarations, `StraightLine` for the form that is read, and `Extents` for the settings that fit it.
-//! `Uses` and `Nesting` have the rules on what is used and on structure. What a lane of it does: `Sizes`
-//! says what is declared, `Values` what operands stand for, `Writes` what is written, `Views` and `Plans`
+//! words that spell it, `Faults` for the rules that the words break, `Declarations`, `Uses` and `Nesting`
+//! for the rules on declarations, on what is used and on structure, `Cases` for the case before each, and
+//! `Extents` for the settings that fit it. What a lane of it does: `Sizes` says what is declared, `Values` what operands stand for, `Writes` what is written, `Views` and `Plans`
 //! which events an instruction makes, `Results` what it leaves, `Ends` which ends match, and `Bytecode`
 //! one step of the lane.
 #![tactic(auto)]
 
+mod cases;
 mod declaration;
 mod ends;
 mod fault;
@@ -19,9 +19,7 @@ mod laws;
 mod operands;
 mod program;
 mod reader;
-mod rules;
 mod spelling;
-mod straight_line;
 
 pub use declaration::{Declaration, Declared, SharedKind, ThreadGroup, ViewKind};
 pub use ends::ends_laws;
@@ -30,11 +28,8 @@ pub use instruction::Instruction;
 pub use laws::bytecode_laws;
 pub use program::Program;
 pub use reader::{read, read_into};
-pub use rules::rule_laws;
 pub use spelling::spelled_laws;
 pub use tpf_decode::{Argument, Kind, Relative, Select};
 
-#[cfg(test)]
-mod line_tests;
 #[cfg(test)]
 mod tests;

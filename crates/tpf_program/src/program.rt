@@ -1,10 +1,13 @@
-ghost use Rattle.std.specs.Prelude.{◌≡◌, ◌<◌, ◌≤◌, Some, length, slice_get, IfOk};
+ghost use Rattle.std.specs.Prelude.{◌≡◌, ◌<◌, ◌≤◌, [], Some, length, slice_get, IfOk};
 ghost use Rattle.word_base.specs.Settings.{axes};
 ghost use Rattle.tpf_program.specs.Declarations.{threads_in};
 ghost use Rattle.tpf_program.specs.Extents.{shared_extent, words_declared};
-ghost use Rattle.tpf_program.specs.Program.{empty, kept, unread};
+ghost use Rattle.tpf_decode.specs.Profiles.{Base};
+ghost use Rattle.tpf_program.specs.Cases.{previous_case};
+ghost use Rattle.tpf_program.specs.Program.{AreApart, AreInOrder, empty, kept, unread};
 ghost use Rattle.tpf_program.specs.Sizes.{temps_declared, temps_of, elements_declared, elements_of, vectors_declared, vectors_of};
 
+use crate::cases::Cases;
 use crate::declaration::{Declaration, Declared, SharedKind, ThreadGroup};
 use crate::instruction::Instruction;
 use node_pool::Pool;
@@ -22,11 +25,13 @@ pub struct Program {
     pub(crate) declarations: Pool<Declared>,
     pub(crate) constants: Pool<u32>,
     pub(crate) instructions: Pool<Instruction>,
+    pub(crate) cases: Cases,
 }
 
 impl Model for Program {
     ghost use Rattle.std.specs.Prelude.{◌≡◌, ◌≤◌, [], length};
-    ghost use Rattle.tpf_program.specs.Program.{Kept};
+    ghost use Rattle.tpf_program.specs.Program.{Kept, AreApart, AreInOrder};
+    ghost use Rattle.tpf_program.specs.KeptCases.{AreCases, IsOfRoom};
 
     ghost Value = { Kept };
 
@@ -44,7 +49,12 @@ impl Model for Program {
     ghost invariant = { λ p. record {
       constants_room : p.constants.capacity ≡ p.declarations.capacity;
       instructions_room : p.instructions.capacity ≡ p.declarations.capacity;
+      cases_room : IsOfRoom p.declarations.capacity p.cases;
       few_instructions : length p.instructions.list ≤ 65536;
+      declarations_in_order : AreInOrder (λ d. d.place) p.words p.declarations.list;
+      instructions_in_order : AreInOrder (λ i. i.place) p.words p.instructions.list;
+      apart : AreApart p.declarations.list p.instructions.list;
+      cases : AreCases p.instructions.list p.cases;
     } };
 }
 
@@ -107,11 +117,13 @@ impl Program {
         let declarations = Pool::make(alloc, words)?;
         let constants = Pool::make(alloc, words)?;
         let instructions = Pool::make(alloc, words)?;
+        let cases = Cases::make(alloc, words)?;
         Ok(Program {
             words: 0,
             declarations,
             constants,
             instructions,
+            cases,
         })
     }
 
@@ -130,6 +142,7 @@ impl Program {
         self.declarations.clear();
         self.constants.clear();
         self.instructions.clear();
+        self.cases.clear();
     }
 
     /// The number of words, the version token and the length token included.
@@ -236,6 +249,34 @@ impl Program {
         ensures { slice_get self.now.shader.instructions i ≡ Some result }
     {
         self.instructions.get(i)
+    }
+
+    /// For a case the last one before it that has its value and stands at its level, by their numbers, and
+    /// nothing for another instruction. The level is told by counting openings and closings alone: where
+    /// those in front match, it is how many constructs stand around.
+    pub fn previous_case(&self, i: u32) -> Option<u32>
+        requires { i < length self.now.shader.instructions }
+        ensures { result ≡ previous_case Base self.now.shader.instructions i }
+    {
+        self.cases.previous.get(i)
+    }
+
+    /// That a program of the base profile has no typed view, for the proofs of callers. It does nothing
+    /// when it runs.
+    pub fn typed_laws(&self)
+        ensures { self.now.shader.typed ≡ [] }
+    {
+        let _words = &self.words;
+    }
+
+    /// That declarations and instructions stand one behind the other in the program's words, for the
+    /// proofs of callers. It does nothing when it runs.
+    pub fn order_laws(&self)
+        ensures declarations { AreInOrder (λ d. d.place) self.now.shader.words self.now.shader.declarations }
+        ensures instructions { AreInOrder (λ i. i.place) self.now.shader.words self.now.shader.instructions }
+        ensures apart { AreApart self.now.shader.declarations self.now.shader.instructions }
+    {
+        let _words = &self.words;
     }
 
     /// The number of words of the immediate constant buffers.

@@ -1,13 +1,13 @@
-ghost use Rattle.std.specs.Prelude.{◌≡◌, ◌+◌, ◌*◌, ◌%◌, ◌-◌, ◌/◌, ◌<◌, ◌≤◌, [], ◌∷◌, ◌++◌, Some, None, length, slice_index, IfOk, IfErr, OnOk};
+ghost use Rattle.std.specs.Prelude.{◌≡◌, ◌+◌, ◌*◌, ◌%◌, ◌-◌, ◌/◌, ◌<◌, ◌≤◌, [], ◌∷◌, ◌++◌, Contains, Some, None, length, slice_index, IfOk, IfErr, OnOk};
 ghost use Rattle.word_base.specs.Rules.{HaltsBy, IsFirst, first};
 ghost use Rattle.word_base.specs.Words.{words_of};
 ghost use Rattle.tpf_decode.specs.Refusals.{header_faults};
 ghost use Rattle.tpf_decode.specs.Spelling.{words_between};
 ghost use Rattle.tpf_decode.specs.Profiles.{Base};
 ghost use Rattle.tpf_program.specs.Faults.{body_faults, program_faults};
-ghost use Rattle.tpf_program.specs.Program.{empty};
+ghost use Rattle.tpf_program.specs.KeptCases.{IsRoomFor};
+ghost use Rattle.tpf_program.specs.Program.{IsBehind, empty};
 ghost use Rattle.tpf_program.specs.Spelling.{Spells, listed};
-ghost use Rattle.tpf_program.specs.StraightLine.{IsStraightLine, IsRefused};
 ghost use Rattle.tpf_program.specs.Reading.{IsReadTo};
 
 use crate::declaration::{Declaration, Declared};
@@ -16,30 +16,24 @@ use crate::instruction::Instruction;
 use crate::item::{Piece, read_piece};
 use crate::operands::word;
 use crate::program::Program;
-use crate::straight_line::is_straight_line;
 use node_pool::Pool;
 use std::alloc::Global;
 use tpf_decode::header;
-use word_base::{Halt, Refusal, Rule, first_laws, word_laws};
+use word_base::{Halt, Refusal, first_laws, word_laws};
 
-/// The answer to words that spell a program of another form.
-const OUTSIDE: Refusal = Refusal {
-    rule: Rule::U1,
-    place: 0,
-};
-
-/// Reads the program that the data of a SHEX chunk spell.
+/// Reads the program that the data of a SHEX chunk spell: any that breaks no rule of the head and the
+/// tokens.
 ///
 /// # Errors
 ///
-/// The first rule that is broken of the head and the tokens, by phase, then by place, then by number;
-/// and `U1` at 0 exactly where none is, and the words spell no straight line.
+/// The first rule that is broken of the head and the tokens, by phase, then by place, then by number.
 pub fn read(alloc: Global, bytes: &[u8]) -> Result<Program, Halt>
     requires whole { length bytes.now % 4 ≡ 0 }
     requires head { 8 ≤ length bytes.now }
-    ensures ok { IfOk result (λ p. IsStraightLine (words_of bytes.now) p.shader) }
+    ensures ok { IfOk result (λ p. Spells Base p.shader (words_of bytes.now)) }
+    ensures size { IfOk result (λ p. p.shader.words ≤ 65536) }
     ensures sound { OnOk result (program_faults Base (words_of bytes.now) ≡ []) }
-    ensures halted { IfErr result (HaltsBy (IsRefused (words_of bytes.now))) }
+    ensures halted { IfErr result (HaltsBy (Contains (program_faults Base (words_of bytes.now)))) }
 {
     first_laws();
     let words = match header(bytes) {
@@ -50,31 +44,32 @@ pub fn read(alloc: Global, bytes: &[u8]) -> Result<Program, Halt>
         Ok(program) => program,
         Err(_) => return Err(Halt::NoMemory),
     };
-    match fill(&mut program, bytes, words) {
+    match spelled(&mut program, bytes, words) {
         Ok(()) => Ok(program),
         Err(refusal) => Err(Halt::Refused(refusal)),
     }
 }
 
-/// Reads the program that the data of a SHEX chunk spell into one that was made before, in place of
-/// what it held. It takes no memory. The second word of the data, the program's length in words, is
-/// at most the room.
+/// Reads the program that the data of a SHEX chunk spell, any that breaks no rule of the head and the
+/// tokens, into one that was made before, in place of what it held. It takes no memory. The second word
+/// of the data, the program's length in words, is at most the room.
 ///
 /// # Errors
 ///
-/// The first rule that is broken of the head and the tokens, by phase, then by place, then by number;
-/// and `U1` at 0 exactly where none is, and the words spell no straight line. The program is then
-/// empty, as it was made.
+/// The first rule that is broken of the head and the tokens, by phase, then by place, then by number.
+/// The program is then empty, as it was made.
 pub fn read_into(program: &mut Program, bytes: &[u8]) -> Result<(), Refusal>
     requires whole { length bytes.now % 4 ≡ 0 }
     requires head { 8 ≤ length bytes.now }
     requires room { slice_index (words_of bytes.now) 1 ≤ program.old.room }
-    ensures ok { OnOk result (IsStraightLine (words_of bytes.now) program.new.shader) }
+    ensures ok { OnOk result (Spells Base program.new.shader (words_of bytes.now)) }
+    ensures size { OnOk result (program.new.shader.words ≤ 65536) }
     ensures sound { OnOk result (program_faults Base (words_of bytes.now) ≡ []) }
-    ensures refused { IfErr result (IsFirst (IsRefused (words_of bytes.now))) }
+    ensures refused { IfErr result (IsFirst (Contains (program_faults Base (words_of bytes.now)))) }
     ensures empty { IfErr result (λ r. program.new.shader ≡ empty) }
     ensures room { program.new.room ≡ program.old.room }
 {
+    first_laws();
     match read_over(program, bytes) {
         Ok(()) => Ok(()),
         Err(refusal) => {
@@ -89,34 +84,16 @@ pub fn read_into(program: &mut Program, bytes: &[u8]) -> Result<(), Refusal>
 fn read_over(program: &mut Program, bytes: &[u8]) -> Result<(), Refusal>
     requires head { 8 ≤ length bytes.now }
     requires room { slice_index (words_of bytes.now) 1 ≤ program.old.room }
-    ensures ok { OnOk result (IsStraightLine (words_of bytes.now) program.new.shader) }
-    ensures sound { OnOk result (program_faults Base (words_of bytes.now) ≡ []) }
-    ensures refused { IfErr result (IsFirst (IsRefused (words_of bytes.now))) }
+    ensures ok { OnOk result (Spells Base program.new.shader (words_of bytes.now)) }
+    ensures size { OnOk result (program.new.shader.words ≤ 65536) }
+    ensures sound { OnOk result (first (program_faults Base (words_of bytes.now)) ≡ None) }
+    ensures refused { IfErr result (λ r. first (program_faults Base (words_of bytes.now)) ≡ Some r) }
     ensures room { program.new.room ≡ program.old.room }
 {
-    first_laws();
     match header(bytes) {
-        Ok(words) => fill(program, bytes, words),
+        Ok(words) => spelled(program, bytes, words),
         Err(refusal) => Err(refusal),
     }
-}
-
-/// Reads the straight line whose head is sound into a program with room for it.
-fn fill(program: &mut Program, bytes: &[u8], words: u32) -> Result<(), Refusal>
-    requires head { None ≡ first (header_faults (words_of bytes.now)) }
-    requires count { words ≡ slice_index (words_of bytes.now) 1 }
-    requires room { words ≤ program.old.room }
-    ensures ok { OnOk result (IsStraightLine (words_of bytes.now) program.new.shader) }
-    ensures sound { OnOk result (program_faults Base (words_of bytes.now) ≡ []) }
-    ensures refused { IfErr result (IsFirst (IsRefused (words_of bytes.now))) }
-    ensures room { program.new.room ≡ program.old.room }
-{
-    first_laws();
-    spelled(program, bytes, words)?;
-    if !is_straight_line(program) {
-        return Err(OUTSIDE);
-    }
-    Ok(())
 }
 
 /// Reads any program of the base profile whose head is sound into one with room for it.
@@ -176,7 +153,8 @@ fn take_piece(program: &mut Program, bytes: &[u8], at: u32) -> Result<u32, Refus
 }
 
 fn add_declaration(program: &mut Program, declared: Declared)
-    requires { length program.now.shader.declarations < program.now.room }
+    requires room { length program.now.shader.declarations < program.now.room }
+    requires place { IsBehind program.now.shader declared.place }
     ensures { program.new ≡ record program.old {
       shader = record program.old.shader { declarations = program.old.shader.declarations ++ declared ∷ [] };
     } }
@@ -187,10 +165,13 @@ fn add_declaration(program: &mut Program, declared: Declared)
 fn add_instruction(program: &mut Program, instruction: Instruction)
     requires room { length program.now.shader.instructions < program.now.room }
     requires few { length program.now.shader.instructions < 65536 }
+    requires place { IsBehind program.now.shader instruction.place }
+    requires cases { IsRoomFor program.now.room program.now.shader.instructions instruction }
     ensures { program.new ≡ record program.old {
       shader = record program.old.shader { instructions = program.old.shader.instructions ++ instruction ∷ [] };
     } }
 {
+    program.cases.add(&program.instructions, instruction);
     program.instructions.push(instruction);
 }
 
@@ -213,6 +194,7 @@ fn add_constants(program: &mut Program, bytes: &[u8], at: u32, end: u32)
     requires words { end ≤ length (words_of bytes.now) }
     requires room { length program.now.shader.constants + (end - (at + 2)) ≤ program.now.room }
     requires room_behind { length program.now.shader.declarations < program.now.room }
+    requires place { IsBehind program.now.shader at }
     ensures { program.new ≡ record program.old {
       shader = record program.old.shader {
         constants = program.old.shader.constants ++ words_between bytes.now (at + 2) end;

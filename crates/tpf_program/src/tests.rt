@@ -1,11 +1,9 @@
 use super::*;
 use crate::instruction::NOTHING;
 use crate::operands::word;
-use crate::reader::spelled;
 use std::alloc::{AllocError, Global};
 use std::process::Abort;
 use std::test::Fail;
-use tpf_decode::header;
 use word_base::{Halt, Refusal, Rule};
 
 /// Flags, one register, a group of one thread, `mov r0.xy, l(3, 4, 0, 0)`, `iadd r0.x, r0.x, r0.y`
@@ -160,7 +158,7 @@ fn reads_into_one_program(rt: HostRuntime) -> Result<(), Fail> {
     );
     assert_eq!(rt; read_words_into(rt, alloc, &mut program, &SUM)?, Ok(()));
     assert_eq!(rt; (program.words(), program.instructions()), (25, 3));
-    // An immediate as a destination, and a program of another form.
+    // An immediate as a destination.
     let mut words = SUM;
     words[18] = 0x00004012;
     let kind = Refusal {
@@ -174,25 +172,6 @@ fn reads_into_one_program(rt: HostRuntime) -> Result<(), Fail> {
     assert_eq!(rt;
         (program.room(), program.words(), program.instructions()),
         (64, 0, 0)
-    );
-    assert_eq!(rt; read_words_into(rt, alloc, &mut program, &SUM)?, Ok(()));
-    words = SUM;
-    words[24] = 0x0100003A;
-    let form = Refusal {
-        rule: Rule::U1,
-        place: 0,
-    };
-    assert_eq!(rt;
-        read_words_into(rt, alloc, &mut program, &words)?,
-        Err(form)
-    );
-    assert_eq!(rt;
-        (
-            program.words(),
-            program.declarations(),
-            program.instructions()
-        ),
-        (0, 0, 0)
     );
     assert_eq!(rt; read_words_into(rt, alloc, &mut program, &SUM)?, Ok(()));
     assert_eq!(rt;
@@ -245,28 +224,6 @@ fn reads_what_does_nothing(rt: HostRuntime) -> Result<(), Fail> {
 }
 
 #[test]
-fn refuses_other_forms(rt: HostRuntime) -> Result<(), Fail> {
-    // r1, no `ret`, a group too deep, registers past the limit.
-    refuses_with(&rt, rt.alloc(), (11, 1), Rule::U1, 0)?;
-    refuses_with(&rt, rt.alloc(), (24, 0x0100003A), Rule::U1, 0)?;
-    refuses_with(&rt, rt.alloc(), (8, 65), Rule::U1, 0)?;
-    refuses_with(&rt, rt.alloc(), (4, 4097), Rule::U1, 0)?;
-    // Two declarations of registers, a negated source, a `ret` before the last.
-    let twice = [
-        0x00050050, 11, 0x02000068, 1, 0x02000068, 1, 0x0400009B, 1, 1, 1, 0x0100003E,
-    ];
-    refuses(&rt, rt.alloc(), &twice, Rule::U1, 0)?;
-    let negated = [
-        0x00050050, 17, 0x02000068, 1, 0x0400009B, 1, 1, 1, 0x0800001E, 0x00100012, 0, 0x8010000A,
-        0x00000041, 0, 0x0010000A, 0, 0x0100003E,
-    ];
-    refuses(&rt, rt.alloc(), &negated, Rule::U1, 0)?;
-    let early = [0x00050050, 8, 0x0400009B, 1, 1, 1, 0x0100003E, 0x0100003E];
-    refuses(&rt, rt.alloc(), &early, Rule::U1, 0)?;
-    Ok(())
-}
-
-#[test]
 fn names_the_first_broken_rule(rt: HostRuntime) -> Result<(), Fail> {
     // Another version, a flag of doubles, a saturated sum, an immediate as a
     // destination.
@@ -302,11 +259,7 @@ fn spells_views_and_constants(rt: HostRuntime) -> Result<(), Fail> {
         0x00050050, 22, 0x0381009D, 0x0011E000, 2, 0x0481009E, 0x0011E000, 3, 8, 0x00001835, 6, 1,
         2, 3, 4, 0x00001835, 6, 5, 6, 7, 8, 0x0100003E,
     ];
-    let bytes = bytes_of(rt.alloc(), &words)?;
-    assert!(rt; 8 <= bytes.len());
-    let count = header(bytes.as_slice())?;
-    let mut program = Program::make(rt.alloc(), count)?;
-    spelled(&mut program, bytes.as_slice(), count)?;
+    let program = read_words(&rt, rt.alloc(), &words)??;
     assert_eq!(rt; program.declarations(), 4);
     assert_eq!(rt;
         program.declaration(0).what,
@@ -362,5 +315,29 @@ fn looks_at_the_next_token(rt: HostRuntime) -> Result<(), Fail> {
     refuses(&rt, rt.alloc(), &words, Rule::K3, 11)?;
     words[1] = 15;
     refuses(&rt, rt.alloc(), &words, Rule::K2, 1)?;
+    Ok(())
+}
+
+#[test]
+fn finds_the_case_before(rt: HostRuntime) -> Result<(), Fail> {
+    // `switch l(0)`, `case l(7)`, in it `switch l(0)`, `case l(7)`, `case l(8)`, `endswitch`, then
+    // `case l(8)`, `case l(7)`, `endswitch` and `ret`.
+    let words = [
+        0x00050050, 27, 0x0300004C, 0x00004001, 0, 0x03000006, 0x00004001, 7, 0x0300004C,
+        0x00004001, 0, 0x03000006, 0x00004001, 7, 0x03000006, 0x00004001, 8, 0x01000017,
+        0x03000006, 0x00004001, 8, 0x03000006, 0x00004001, 7, 0x01000017, 0x0100003E, 0x0100003E,
+    ];
+    let program = read_words(&rt, rt.alloc(), &words)??;
+    assert_eq!(rt; program.instructions(), 11);
+    for (i, before) in [
+        (1, None),
+        (3, None),
+        (4, None),
+        (6, None),
+        (7, Some(1)),
+        (8, None),
+    ] {
+        assert_eq!(rt; program.previous_case(i), before);
+    }
     Ok(())
 }

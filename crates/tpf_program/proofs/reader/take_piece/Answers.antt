@@ -1,4 +1,4 @@
-use Rattle.std.proofs.Common.{◌≤◌, ◌+◌, ◌++◌, length, refl, sym, ap, ◌∙◌, subst, append-nil, arith}
+use Rattle.std.proofs.Common.{◌≡◌, ◌≤◌, ◌+◌, ◌++◌, length, refl, sym, ap, ◌∙◌, subst, append-nil, arith}
 use Rattle.std.specs.Prelude.{slice_range}
 use Rattle.word_base.specs.Words.{words_of}
 use Rattle.word_base.specs.Rules.{first}
@@ -6,6 +6,8 @@ use Rattle.tpf_decode.specs.Profiles.{Base}
 use Rattle.tpf_decode.specs.Refusals.{instruction_faults}
 use Rattle.tpf_program.specs.Spelling.{Declares, Does, Lists, Skips}
 use Rattle.tpf_program.specs.Reading.{IsPiece}
+use Rattle.tpf_decode.proofs.Ranges.{length-range}
+use Rattle.tpf_program.proofs.CaseWords.{case_words}
 use Rattle.tpf_program.proofs.Walk.{Adds, part_read}
 use Rattle.tpf_program.proofs.reader.take_piece.Goals as goal
 
@@ -90,3 +92,26 @@ returns-in-Nothing-clause-read c =
     } in
     part_read w at end (Skips s.0 s.1) p p c.requires.head c.in-Ok.ensures.within.0 fits c.requires.read
     s.2 adds inside c.requires.words sound
+
+-- an instruction stands behind those that are read, and there is room for its case
+pub add_instruction-requires-clause-place : goal.add_instruction-requires-clause-place
+add_instruction-requires-clause-place c =
+    let w = words_of c.args.bytes.now in
+    let s = subst (λ x. IsPiece w c.args.at c.in-Ok.found.1 x) c.in-Instruction.is c.in-Ok.ensures.spelled in
+    let place : c.in-Instruction.instruction.place ≡ c.args.at = s.0 in
+    record {
+      declared = λ k d e. omega (arith, c.requires.read.declared k d e, place);
+      done = λ k i e. omega (arith, c.requires.read.done k i e, place);
+      behind = omega (arith, place, c.requires.head);
+      inside = omega (arith, place, c.requires.inside);
+    }
+
+pub add_instruction-requires-clause-cases : goal.add_instruction-requires-clause-cases
+add_instruction-requires-clause-cases c =
+    let w = words_of c.args.bytes.now in
+    let end = c.in-Ok.found.1 in
+    let s = subst (λ x. IsPiece w c.args.at end x) c.in-Instruction.is c.in-Ok.ensures.spelled in
+    let inside : end ≤ c.args.program.now.shader.words = omega (arith, c.in-Ok.ensures.within.1, ap (λ s. s.shader.words) c.program.view_is) in
+    let fits : end ≤ length w = omega (arith, inside, c.requires.words) in
+    let size : c.args.at + length (slice_range w c.args.at end) ≡ end = omega (arith, length-range w c.args.at end fits, c.in-Ok.ensures.within.0) in
+    λ h. omega (arith, case_words c.in-Instruction.instruction (slice_range w c.args.at end) s.1 h, size, inside, c.requires.room, c.requires.read.few_cases)
