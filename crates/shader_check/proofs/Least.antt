@@ -4,7 +4,11 @@ use Rattle.std.specs.Prelude.{cond, nat_lt, nat_eq}
 use Rattle.std.proofs.lemmas.Bool.Decides.{nat_tests}
 use Rattle.word_base.specs.declared.rule.Refusal.{Refusal}
 use Rattle.word_base.specs.Rules.{Key, key_of, is_below, comes_before, earlier, first}
-use Rattle.shader_check.specs.FirstRefusals.{joined}
+
+-- the first of two refusals, where there may be none
+abbrev pub joined : Option Refusal → Option Refusal → Option Refusal
+joined None other = other
+joined (Some r) other = Some (earlier r other)
 
 below_through : (a b c : Key) → is_below c b ≡ true → is_below b a ≡ true → is_below c a ≡ true
 below_through a b c h k = grind (arith, nat_tests)
@@ -33,17 +37,6 @@ pub first_append : (qs rs : List Refusal) → first (qs ++ rs) ≡ joined (first
 first_append [] rs = refl
 first_append (q ∷ qs) rs = ap (λ o. Some (earlier q o)) (first_append qs rs) ∙ joined_earlier q (first qs) (first rs)
 
-pub joined_none : (o : Option Refusal) → joined o None ≡ o
-joined_none None = refl
-joined_none (Some r) = refl
-
-pub joined_more : (o p q : Option Refusal) → joined (joined o p) q ≡ joined o (joined p q)
-joined_more None p q = refl
-joined_more (Some r) p q = sym (joined_earlier r p q)
-
 -- of two rules at one place the one with the lower number comes before the other one
 pub same_place : (place : ℕ) → (nat_lt place place || (nat_eq place place && false)) ≡ false
 same_place place = grind (arith, nat_tests)
-
-pub same_later : (place : ℕ) → (nat_lt place place || (nat_eq place place && true)) ≡ true
-same_later place = grind (arith, nat_tests)

@@ -5,18 +5,19 @@ use Rattle.std.proofs.lemmas.Bool.{cases_lt}
 use Rattle.std.proofs.lemmas.Bool.Decides.{nat_tests}
 use Rattle.std.proofs.lemmas.Option.{slice_get_within}
 use Rattle.word_base.specs.declared.rule.Rule.TheVariants.{S2, S9}
-use Rattle.word_base.specs.declared.rule.Refusal.{Refusal}
-use Rattle.word_base.specs.Rules.{broken, refusal}
+use Rattle.word_base.specs.Rules.{broken, first, refusal}
 use Rattle.tpf_decode.specs.Profiles.{Base}
 use Rattle.tpf_decode.specs.Opcodes.{meaning_of}
 use Rattle.tpf_decode.specs.declared.meaning.Meaning.{Meaning}
 use Rattle.tpf_decode.specs.declared.meaning.Meaning.TheVariants.{Return}
 use Rattle.tpf_program.specs.declared.instruction.Instruction.{Instruction}
+use Rattle.tpf_program.specs.Program.{AreInOrder}
 use Rattle.tpf_program.specs.Ends.{Within, has, means, is_opening, least, is_even, close, reaches}
-use Rattle.tpf_program.specs.Nesting.{open_from, last_from, inner, is_return, where_none}
-use Rattle.shader_check.specs.Nested.{all_below, openings, turned, first_number, first_listed, part_of_any, passed}
+use Rattle.tpf_program.specs.Nesting.{open_from, last_from, inner, is_return}
+use Rattle.shader_check.specs.Nested.{all_below, openings, first_number, last_number, part_of_any, passed}
 use Rattle.shader_check.proofs.NestedCounts.{a, openings_next}
 use Rattle.shader_check.proofs.NestedFinds.{inner_is_first}
+use Rattle.shader_check.proofs.Orders.{phase_of, Late, late_none, late_joined, first_wins}
 
 least_before : (test : ℕ → Bool) (at n c : ℕ) → least test at n ≡ Some c → c < at + n
 least_before test at zero c h = absurd (cc)
@@ -67,16 +68,13 @@ module _ (code : List Instruction) where
   pub nothing_open : openings code (length code) ≡ [] → open_from Base code 0 code ≡ []
   nothing_open h = all_closed h 0 code (λ k. let e : k ≡ 0 + k = omega arith in ap (slice_get code) e)
 
-turned_none : (xs : List ℕ) → first_number (turned xs) ≡ None → xs ≡ []
-turned_none [] h = refl
-turned_none (n ∷ rest) h = absurd (some_first (turned rest) h)
-  where
-    some_first : (ys : List ℕ) → first_number (ys ++ n ∷ []) ≡ None → ⊥
-    some_first [] h = absurd (cc)
-    some_first (y ∷ ys) h = absurd (cc)
+last_none : (xs : List ℕ) → last_number xs ≡ None → xs ≡ []
+last_none [] h = refl
+last_none (n ∷ []) h = absurd (cc)
+last_none (n ∷ m ∷ rest) h = let k = last_none (m ∷ rest) h in absurd (cc)
 
-pub none_left : (code : List Instruction) → first_number (turned (openings code (length code))) ≡ None → open_from Base code 0 code ≡ []
-none_left code h = nothing_open code (turned_none (openings code (length code)) h)
+pub none_left : (code : List Instruction) → last_number (openings code (length code)) ≡ None → open_from Base code 0 code ≡ []
+none_left code h = nothing_open code (last_none (openings code (length code)) h)
 
 -- the outermost that is left
 pub record IsFirstLeft (test : ℕ → Bool) (u n : ℕ) : Type 0 where
@@ -84,32 +82,34 @@ pub record IsFirstLeft (test : ℕ → Bool) (u n : ℕ) : Type 0 where
   pub holds : test n ≡ true
   pub none : (m : ℕ) → m < n → test m ≡ false
 
-front_of : (xs : List ℕ) (x n : ℕ) → first_number (xs ++ x ∷ []) ≡ Some n → (first_number xs ≡ None → x ≡ n) × (first_number xs ≡ None → xs ≡ []) × ((y : ℕ) → first_number xs ≡ Some y → first_number xs ≡ Some n)
-front_of [] x n h = let e : x ≡ n = cc in (λ k. e, λ k. refl, λ y k. absurd (cc))
-front_of (y ∷ xs) x n h = (λ k. absurd (cc), λ k. absurd (cc), λ z k. h)
-
-first_left : (test : ℕ → Bool) (u n : ℕ) → first_number (turned (all_below test u)) ≡ Some n → IsFirstLeft test u n
+first_left : (test : ℕ → Bool) (u n : ℕ) → last_number (all_below test u) ≡ Some n → IsFirstLeft test u n
 first_left test zero n h = absurd (cc)
 first_left test (suc u) n h = by_test (test u) refl h (first_left test u n)
   where
-    by_first : test u ≡ true → (o : Option ℕ) → first_number (turned (all_below test u)) ≡ o → first_number (turned (all_below test u) ++ u ∷ []) ≡ Some n
-        → (first_number (turned (all_below test u)) ≡ Some n → IsFirstLeft test u n) → IsFirstLeft test (suc u) n
-    by_first e None k h next =
-        let f = front_of (turned (all_below test u)) u n h in
-        let z : u ≡ n = f.0 k in
-        let y : all_below test u ≡ [] = turned_none (all_below test u) k in
-        record { below = omega (arith, z); holds = subst (λ x. test x ≡ true) z e; none = λ m l. none_below test u m y (omega (arith, l, z)) }
-    by_first e (Some y) k h next =
-        let f = front_of (turned (all_below test u)) u n h in
-        let r = next (f.2 y k) in record { below = omega (arith, r.below); holds = r.holds; none = r.none }
+    by_rest : test u ≡ true → (xs : List ℕ) → all_below test u ≡ xs → last_number (u ∷ xs) ≡ Some n
+        → (last_number xs ≡ Some n → IsFirstLeft test u n) → IsFirstLeft test (suc u) n
+    by_rest e [] k h next =
+        let z : u ≡ n = cc in
+        record { below = omega (arith, z); holds = subst (λ x. test x ≡ true) z e; none = λ m l. none_below test u m k (omega (arith, l, z)) }
+    by_rest e (y ∷ ys) k h next = let r = next h in record { below = omega (arith, r.below); holds = r.holds; none = r.none }
 
-    by_test : (b : Bool) → test u ≡ b → first_number (turned (if b then u ∷ all_below test u else all_below test u)) ≡ Some n
-        → (first_number (turned (all_below test u)) ≡ Some n → IsFirstLeft test u n) → IsFirstLeft test (suc u) n
-    by_test true e h next = by_first e (first_number (turned (all_below test u))) refl h next
+    by_test : (b : Bool) → test u ≡ b → last_number (if b then u ∷ all_below test u else all_below test u) ≡ Some n
+        → (last_number (all_below test u) ≡ Some n → IsFirstLeft test u n) → IsFirstLeft test (suc u) n
+    by_test true e h next = by_rest e (all_below test u) refl h next
     by_test false e h next = let r = next h in record { below = omega (arith, r.below); holds = r.holds; none = r.none }
 
-module _ (code : List Instruction) (n : ℕ) (j : Instruction) (left : IsFirstLeft (a code (length code)) (length code) n) (there : slice_get code n ≡ Some j) where
-  left_from : (q : ℕ) (is : List Instruction) → q ≤ n → n < q + length is → ((k : ℕ) → slice_get is k ≡ slice_get code (q + k)) → first_listed (open_from Base code q is) ≡ Some (refusal S2 j.place)
+-- openings that are left behind a place
+pub late_open : (code : List Instruction) (low q : ℕ) (is : List Instruction) → ((n : ℕ) (i : Instruction) → slice_get is n ≡ Some i → low ≤ i.place) → Late 7 low (first (open_from Base code q is))
+late_open code low q [] h = late_none 7 low
+late_open code low q (i ∷ is) h = by_test (means Base is_opening i && is_none (close Base code q)) (late_open code low (q + 1) is (λ n j e. h (suc n) j e))
+  where
+    by_test : (b : Bool) → Late 7 low (first (open_from Base code (q + 1) is)) → Late 7 low (first (broken b S2 i.place ++ open_from Base code (q + 1) is))
+    by_test false k = k
+    by_test true k = late_joined 7 low (Some (refusal S2 i.place)) (first (open_from Base code (q + 1) is))
+        (record { each = λ r e. let z : refusal S2 i.place ≡ r = cc in (sym (ap phase_of z), omega (arith, h 0 i refl, ap (λ x. x.place) z)) }) k
+
+module _ (code : List Instruction) (words : ℕ) (ordered : AreInOrder (λ i. i.place) words code) (n : ℕ) (j : Instruction) (left : IsFirstLeft (a code (length code)) (length code) n) (there : slice_get code n ≡ Some j) where
+  left_from : (q : ℕ) (is : List Instruction) → q ≤ n → n < q + length is → ((k : ℕ) → slice_get is k ≡ slice_get code (q + k)) → first (open_from Base code q is) ≡ Some (refusal S2 j.place)
   left_from q [] h m s = absurd (omega (arith, h, m))
   left_from q (i ∷ is) h m s = elim (cases_lt q n) [
     | inl b ↦ later b (left_from (q + 1) is (omega (arith, b)) (omega (arith, m)) (λ k. let e : q + suc k ≡ q + 1 + k = omega arith in s (suc k) ∙ ap (slice_get code) e))
@@ -122,24 +122,26 @@ module _ (code : List Instruction) (n : ℕ) (j : Instruction) (left : IsFirstLe
       as_open : (b : Bool) → a code (length code) q ≡ b → (means Base is_opening i && is_none (close Base code q)) ≡ b
       as_open b e = ap (λ x. has (means Base is_opening) x && is_none (close Base code q)) (sym at) ∙ (sym (unclosed code q (slice_get_within code q i at)) ∙ e)
 
-      later : q < n → first_listed (open_from Base code (q + 1) is) ≡ Some (refusal S2 j.place) → first_listed (open_from Base code q (i ∷ is)) ≡ Some (refusal S2 j.place)
+      later : q < n → first (open_from Base code (q + 1) is) ≡ Some (refusal S2 j.place) → first (open_from Base code q (i ∷ is)) ≡ Some (refusal S2 j.place)
       later b next =
-          ap (λ b. first_listed (broken b S2 i.place ++ open_from Base code (q + 1) is)) (as_open false (left.none q b)) ∙ next
+          ap (λ b. first (broken b S2 i.place ++ open_from Base code (q + 1) is)) (as_open false (left.none q b)) ∙ next
 
-      here : q ≡ n → first_listed (open_from Base code q (i ∷ is)) ≡ Some (refusal S2 j.place)
+      here : q ≡ n → first (open_from Base code q (i ∷ is)) ≡ Some (refusal S2 j.place)
       here e =
           let same : Some i ≡ Some j = sym at ∙ (ap (slice_get code) e ∙ there) in
           let k : i ≡ j = cc in
-          ap (λ b. first_listed (broken b S2 i.place ++ open_from Base code (q + 1) is)) (as_open true (subst (λ x. a code (length code) x ≡ true) (sym e) left.holds))
-          ∙ ap (λ x. Some (refusal S2 x.place)) k
+          ap (λ b. first (broken b S2 i.place ++ open_from Base code (q + 1) is)) (as_open true (subst (λ x. a code (length code) x ≡ true) (sym e) left.holds))
+          ∙ (first_wins 7 (refusal S2 i.place) (first (open_from Base code (q + 1) is)) (omega arith) refl
+          (late_open code (i.place + 1) (q + 1) is (λ m x y. let z = ordered.ascend q (q + 1 + m) i x (omega arith) at (sym (s (suc m) ∙ ap (slice_get code) (omega arith)) ∙ y) in omega (arith, z)))
+          ∙ ap (λ x. Some (refusal S2 x.place)) k)
 
-pub one_left : (code : List Instruction) (n : ℕ) (j : Instruction) → first_number (turned (openings code (length code))) ≡ Some n → slice_get code n ≡ Some j
-    → first_listed (open_from Base code 0 code) ≡ Some (refusal S2 j.place)
-one_left code n j h e =
+pub one_left : (code : List Instruction) (words : ℕ) → AreInOrder (λ i. i.place) words code → (n : ℕ) (j : Instruction)
+    → last_number (openings code (length code)) ≡ Some n → slice_get code n ≡ Some j → first (open_from Base code 0 code) ≡ Some (refusal S2 j.place)
+one_left code words o n j h e =
     let l = first_left (a code (length code)) (length code) n h in
-    left_from code n j l e 0 code (omega arith) (omega (arith, l.below)) (λ k. let z : k ≡ 0 + k = omega arith in ap (slice_get code) z)
+    left_from code words o n j l e 0 code (omega arith) (omega (arith, l.below)) (λ k. let z : k ≡ 0 + k = omega arith in ap (slice_get code) z)
 
-pub left_there : (code : List Instruction) (n : ℕ) → first_number (turned (openings code (length code))) ≡ Some n → n < length code
+pub left_there : (code : List Instruction) (n : ℕ) → last_number (openings code (length code)) ≡ Some n → n < length code
 left_there code n h = (first_left (a code (length code)) (length code) n h).below
 
 -- THE LAST instruction
@@ -148,54 +150,38 @@ returns_within None h = absurd (cc)
 returns_within (Some Return) h = refl
 returns_within (Some m) h = absurd (cc)
 
-module _ (words : ℕ) (code : List Instruction) (i : Instruction) (closed : openings code (length code) ≡ []) (last : slice_get code (length code - 1) ≡ Some i) where
-  last_one : (q : ℕ) → q + 1 ≡ length code → slice_get code q ≡ Some i → (means Base is_return i && is_none (inner Base code q)) ≡ means Base is_return i
-  last_one q e at = by_test (means Base is_return i) refl
-    where
-      by_test : (b : Bool) → means Base is_return i ≡ b → (b && is_none (inner Base code q)) ≡ b
-      by_test false h = refl
-      by_test true h =
-          let x : openings code q ≡ [] = sym (openings_next code q i at ∙ ap (λ p. passed p q (openings code q)) (returns_within (meaning_of Base i.code) h))
-          ∙ (ap (openings code) e ∙ closed) in
-          ap is_none (inner_is_first code q ∙ ap first_number x)
+module _ (words : ℕ) (code : List Instruction) (i : Instruction) (q : ℕ) (at : slice_get code q ≡ Some i) (end : q + 1 ≡ length code) where
+  lasts : (k : ℕ) (j : Instruction) (is : List Instruction) → k + 1 + length is ≡ length code → ((m : ℕ) → slice_get (j ∷ is) m ≡ slice_get code (k + m))
+      → last_from Base words code k (j ∷ is) ≡ broken (not (means Base is_return i && is_none (inner Base code q))) S9 i.place
+  lasts k j [] e s =
+      let l : k + 0 ≡ q = omega (arith, e, end) in
+      let m : k ≡ q = omega (arith, e, end) in
+      let same : Some j ≡ Some i = s 0 ∙ (ap (slice_get code) l ∙ at) in
+      let z : j ≡ i = cc in
+      ap (λ x. broken (not (means Base is_return x && is_none (inner Base code k))) S9 x.place) z
+      ∙ ap (λ x. broken (not (means Base is_return i && is_none (inner Base code x))) S9 i.place) m
+  lasts k j (x ∷ is) e s = lasts (k + 1) x is (omega (arith, e)) (λ m. let z : k + suc m ≡ k + 1 + m = omega arith in s (suc m) ∙ ap (slice_get code) z)
 
-  lasts : (q : ℕ) (j : Instruction) (is : List Instruction) → q + 1 + length is ≡ length code → ((k : ℕ) → slice_get (j ∷ is) k ≡ slice_get code (q + k))
-      → last_from Base words code q (j ∷ is) ≡ broken (not (means Base is_return i)) S9 i.place
-  lasts q j [] e s =
-      let l : length code - 1 ≡ q = omega (arith, e) in
-      let z : q + 0 ≡ q = omega arith in
-      let at : slice_get code q ≡ Some i = ap (slice_get code) (sym l) ∙ last in
-      let same : Some j ≡ Some i = s 0 ∙ (ap (slice_get code) z ∙ at) in
-      let k : j ≡ i = cc in
-      ap (λ x. broken (not (means Base is_return x && is_none (inner Base code q))) S9 x.place) k
-      ∙ ap (λ b. broken (not b) S9 i.place) (last_one q (omega (arith, e)) at)
-  lasts q j (k ∷ is) e s = lasts (q + 1) k is (omega (arith, e)) (λ k. let z : q + suc k ≡ q + 1 + k = omega arith in s (suc k) ∙ ap (slice_get code) z)
+pub last_is : (words : ℕ) (code : List Instruction) (i : Instruction) (q : ℕ) → slice_get code q ≡ Some i → q + 1 ≡ length code
+    → last_from Base words code 0 code ≡ broken (not (means Base is_return i && is_none (inner Base code q))) S9 i.place
+last_is words [] i q at end = absurd (cc)
+last_is words (j ∷ is) i q at end = lasts words (j ∷ is) i q at end 0 j is (omega arith) (λ k. let z : k ≡ 0 + k = omega arith in ap (slice_get (j ∷ is)) z)
 
-pub last_told : (words : ℕ) (code : List Instruction) (i : Instruction) → first_number (turned (openings code (length code))) ≡ None → slice_get code (length code - 1) ≡ Some i
-    → last_from Base words code 0 code ≡ broken (not (means Base is_return i)) S9 i.place
-last_told words [] i h e = absurd (cc)
-last_told words (j ∷ is) i h e =
-    lasts words (j ∷ is) i (turned_none (openings (j ∷ is) (length (j ∷ is))) h) e 0 j is (omega arith) (λ k. let z : k ≡ 0 + k = omega arith in ap (slice_get (j ∷ is)) z)
+-- where all are closed the last instruction is outside of all, if it is `ret`
+pub last_told : (words : ℕ) (code : List Instruction) (i : Instruction) → last_number (openings code (length code)) ≡ None → slice_get code (length code - 1) ≡ Some i
+    → first (last_from Base words code 0 code) ≡ first (broken (not (means Base is_return i)) S9 i.place)
+last_told words code i h at =
+    let l = slice_get_within code (length code - 1) i at in
+    ap first (last_is words code i (length code - 1) at (omega (arith, l))
+    ∙ ap (λ b. broken (not b) S9 i.place) (by_test (means Base is_return i) refl (omega (arith, l))))
+  where
+    by_test : (b : Bool) → means Base is_return i ≡ b → length code - 1 + 1 ≡ length code → (b && is_none (inner Base code (length code - 1))) ≡ b
+    by_test false e l = refl
+    by_test true e l =
+        let x : openings code (length code - 1) ≡ [] = sym (openings_next code (length code - 1) i at ∙ ap (λ p. passed p (length code - 1) (openings code (length code - 1))) (returns_within (meaning_of Base i.code) e))
+        ∙ (ap (openings code) l ∙ last_none (openings code (length code)) h) in
+        ap is_none (inner_is_first code (length code - 1) ∙ ap first_number x)
 
-pub last_missing : (words : ℕ) (code : List Instruction) → length code ≡ 0 → last_from Base words code 0 code ≡ refusal S9 words ∷ []
+pub last_missing : (words : ℕ) (code : List Instruction) → length code ≡ 0 → first (last_from Base words code 0 code) ≡ Some (refusal S9 words)
 last_missing words [] h = refl
 last_missing words (i ∷ is) h = absurd (omega (arith, h))
-
--- ALL OF THEM in the order of the list
-pub listed_some : (w o l : List Refusal) (r : Refusal) → first_listed w ≡ Some r → first_listed (w ++ where_none w o ++ l) ≡ Some r
-listed_some [] o l r h = absurd (cc)
-listed_some (x ∷ w) o l r h = h
-
-pub listed_open : (w o l : List Refusal) (r : Refusal) → first_listed w ≡ None → first_listed o ≡ Some r → first_listed (w ++ where_none w o ++ l) ≡ Some r
-listed_open [] [] l r h k = absurd (cc)
-listed_open [] (x ∷ o) l r h k = k
-listed_open (x ∷ w) o l r h k = absurd (cc)
-
-pub listed_last : (w o l : List Refusal) → first_listed w ≡ None → o ≡ [] → first_listed (w ++ where_none w o ++ l) ≡ first_listed l
-listed_last [] [] l h k = refl
-listed_last [] (x ∷ o) l h k = absurd (cc)
-listed_last (x ∷ w) o l h k = absurd (cc)
-
-pub listed_none : (xs : List Refusal) → first_listed xs ≡ None → xs ≡ []
-listed_none [] h = refl
-listed_none (x ∷ xs) h = absurd (cc)

@@ -107,10 +107,6 @@ module _ (code : List Instruction) where
       by_test true e = reaches_less m q (close Base code n) h e
       by_test false e = absurd (cc)
 
-  -- how many are open in n at m
-  pub Within_by : ℕ → ℕ → ℕ → Type 0
-  Within_by n m d = o code m + c code n ≡ o code n + c code m + d + 1
-
   pub direct_at : (test : Instruction → Bool) (n m q d : ℕ) (i : Instruction) → n < m → m ≤ q → q ≤ length code → a code q n ≡ true → slice_get code m ≡ Some i
       → o code m + c code n ≡ o code n + c code m + d + 1 → is_direct Base true test code (Some n) m ≡ (test i && nat_eq d 0)
   direct_at test n m q d i h l k e at w = by_standing (stands m n h (omega (arith, l, k)) (around_less m q n l e))

@@ -1,24 +1,18 @@
 -- The first of refusals that are found one after the other.
-use Rattle.std.specs.Prelude.{ℕ, nat_eq, nat_le, nat_lt, ◌+◌, ◌&&◌, ◌||◌, not, if◌then◌else◌, Bool, true, List}
+use Rattle.std.specs.Prelude.{ℕ, nat_eq, nat_le, nat_lt, ◌+◌, ◌&&◌, ◌||◌, not, if◌then◌else◌, Bool, true, List, ◌++◌}
 use Rattle.std.specs.Prelude.{Option, Some, None}
-use Rattle.std.specs.List.{list_any}
 use Rattle.word_base.specs.declared.rule.Refusal.{Refusal}
+use Rattle.word_base.specs.declared.rule.Rule.{Rule}
 use Rattle.word_base.specs.declared.rule.Rule.TheVariants.{L1, L2, L3, L7}
-use Rattle.word_base.specs.Rules.{earlier, first, order_of, refusal}
+use Rattle.word_base.specs.Rules.{order_of}
+use Rattle.tpf_decode.specs.Profiles.{Base}
 use Rattle.tpf_program.specs.declared.declaration.Declaration.{Declaration}
 use Rattle.tpf_program.specs.declared.declaration.Declared.{Declared}
-use Rattle.tpf_program.specs.declared.instruction.Instruction.{Instruction}
-use Rattle.tpf_decode.specs.declared.meaning.Meaning.{Meaning}
-use Rattle.tpf_decode.specs.Opcodes.{meaning_of}
-use Rattle.tpf_decode.specs.Profiles.{Base}
-use Rattle.tpf_program.specs.Declarations.{is_within, has_sizes, same_thing, shared_bytes, register_count}
+use Rattle.tpf_program.specs.Declarations.{is_within, has_sizes, shared_bytes, register_count, declaration_refusals}
 use Rattle.tpf_program.specs.Program.{Shader}
-use Rattle.tpf_program.specs.Uses.{Use, refusals_by, refusals_for, up_to}
-
--- the first of two refusals, where there may be none
-abbrev pub joined : Option Refusal → Option Refusal → Option Refusal
-joined None other = other
-joined (Some r) other = Some (earlier r other)
+use Rattle.tpf_program.specs.Uses.{use_refusals}
+use Rattle.shader_check.specs.declared.things.Things.{Things}
+use Rattle.shader_check.specs.Things.{looked_up, number_of}
 
 -- what is refused is refused by a rule on declarations and on what is used
 abbrev pub is_of_declarations : Option Refusal → Bool
@@ -36,25 +30,22 @@ passes_some bytes registers what =
     || (is_passed 32768 bytes (shared_bytes what) || is_passed 4096 registers (register_count what))
 
 -- the first of the rules that a declaration breaks: declared again, late, past a limit, of a wrong size
-abbrev pub first_at : Bool → Bool → Bool → Bool → ℕ → Option Refusal
-first_at again late past unsized place =
-    if again then Some (refusal L1 place) else
-    if late then Some (refusal L2 place) else
-    if past then Some (refusal L3 place) else
-    if unsized then Some (refusal L7 place) else
-    None
+abbrev pub rule_at : Bool → Bool → Bool → Bool → Option Rule
+rule_at again late past unsized =
+    if again then Some L1 else if late then Some L2 else if past then Some L3 else if unsized then Some L7 else None
 
--- the first of the rules that a declaration breaks behind others, which take so many bytes and registers, where an
--- instruction stands at that least place
-abbrev pub first_behind : ℕ → ℕ → ℕ → List Declared → Declared → Option Refusal
-first_behind earliest bytes registers before d =
-    first_at (list_any (λ e. same_thing e.what d.what) before) (nat_lt earliest d.place)
-    (passes_some bytes registers d.what) (not (has_sizes d.what)) d.place
+-- the first of the rules that a declaration breaks behind others, of which that is kept and which take so many bytes
+-- and registers, where an instruction stands at that least place
+abbrev pub rule_behind : Things → ℕ → ℕ → ℕ → Declared → Option Rule
+rule_behind t earliest bytes registers d =
+    rule_at (looked_up t (number_of d.what)).declared (nat_lt earliest d.place)
+    (passes_some bytes registers d.what) (not (has_sizes d.what))
 
--- the first of the rules that an instruction at a place breaks by these things that it names
-abbrev pub first_using : Shader → ℕ → Meaning → List Use → Option Refusal
-first_using p place meaning us = first (refusals_for p.typed (up_to place p.declarations) meaning us place)
+-- what comes first, or else that
+abbrev pub or_refusal : Option Refusal → Refusal → Option Refusal
+or_refusal None r = Some r
+or_refusal (Some q) r = Some q
 
--- the first of the rules that an instruction breaks by what it names
-abbrev pub first_doing : Shader → Instruction → Option Refusal
-first_doing p i = first (refusals_by p.typed (up_to i.place p.declarations) (meaning_of Base i.code) i)
+-- the broken rules on declarations and on what is used
+abbrev pub thing_refusals : Shader → List Refusal
+thing_refusals p = declaration_refusals 0 p ++ use_refusals Base p

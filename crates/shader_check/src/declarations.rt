@@ -1,14 +1,16 @@
-ghost use Rattle.std.specs.Prelude.{◌≡◌, ◌<◌, ◌≤◌, ◌^◌, ℕ, [], not, true, length, take, nat_lt};
+ghost use Rattle.std.specs.Prelude.{◌≡◌, ◌<◌, ◌^◌, ◌+◌, ℕ, Some, [], min, nat_lt, true};
 ghost use Rattle.std.specs.List.{list_any};
-ghost use Rattle.word_base.specs.declared.rule.Rule.TheVariants.{L4};
-ghost use Rattle.word_base.specs.Rules.{broken, first};
-ghost use Rattle.tpf_program.specs.Declarations.{same_id, same_thing, is_group, is_within, has_structures, is_stride};
-ghost use Rattle.tpf_program.specs.Declarations.{is_shared_size, has_sizes, shared_bytes, register_count, declares_group};
-ghost use Rattle.tpf_program.specs.Declarations.{refusals_from, declaration_refusals};
-ghost use Rattle.shader_check.specs.FirstRefusals.{is_of_declarations, is_passed, passes_some, first_behind};
+ghost use Rattle.word_base.specs.Rules.{first};
+ghost use Rattle.tpf_program.specs.Declarations.{is_group, is_within, has_structures, is_stride};
+ghost use Rattle.tpf_program.specs.Declarations.{is_shared_size, has_sizes, shared_bytes, register_count};
+ghost use Rattle.tpf_program.specs.Program.{AreApart, AreInOrder};
+ghost use Rattle.shader_check.specs.FirstRefusals.{is_of_declarations, is_passed, or_refusal, passes_some};
+ghost use Rattle.shader_check.specs.FirstRefusals.{rule_behind, thing_refusals};
+ghost use Rattle.shader_check.specs.Things.{used_before};
 
-use crate::order::first_of;
-use tpf_program::{Declaration, Declared, Kind, Program, SharedKind, ViewKind};
+use crate::things::Things;
+use crate::uses::refused_before;
+use tpf_program::{Declaration, Declared, Program, SharedKind, ViewKind};
 use word_base::{Refusal, Rule};
 
 /// The most bytes of shared memory that a program may declare.
@@ -17,65 +19,8 @@ const MOST_BYTES: u64 = 32768;
 /// The most registers r# and elements of x# that a program may declare.
 const MOST_REGISTERS: u64 = 4096;
 
-/// Whether two threads' numbers are the same one.
-pub(crate) fn is_same_id(left: Kind, right: Kind) -> bool
-    ensures { result ≡ same_id left right }
-{
-    matches!(
-        (left, right),
-        (Kind::ThreadId, Kind::ThreadId)
-            | (Kind::GroupId, Kind::GroupId)
-            | (Kind::IdInGroup, Kind::IdInGroup)
-            | (Kind::FlatId, Kind::FlatId)
-    )
-}
-
-/// Whether two declarations are of one thing.
-fn is_same(left: Declaration, right: Declaration) -> bool
-    ensures { result ≡ same_thing left right }
-{
-    match (left, right) {
-        (Declaration::Flags(_), Declaration::Flags(_))
-        | (Declaration::Temps(_), Declaration::Temps(_))
-        | (Declaration::Group { .. }, Declaration::Group { .. })
-        | (Declaration::ImmediateConstants { .. }, Declaration::ImmediateConstants { .. }) => true,
-        (Declaration::Constants { slot, .. }, Declaration::Constants { slot: other, .. })
-        | (Declaration::Resource { slot, .. }, Declaration::Resource { slot: other, .. })
-        | (Declaration::Uav { slot, .. }, Declaration::Uav { slot: other, .. })
-        | (Declaration::Shared { slot, .. }, Declaration::Shared { slot: other, .. })
-        | (Declaration::Indexable { slot, .. }, Declaration::Indexable { slot: other, .. }) => {
-            slot == other
-        }
-        (Declaration::Input { kind, .. }, Declaration::Input { kind: other, .. }) => {
-            is_same_id(kind, other)
-        }
-        _ => false,
-    }
-}
-
-/// Whether one of so many declarations is of the same thing.
-fn repeats(program: &Program, count: u32, what: Declaration) -> bool
-    requires { count ≤ length program.now.shader.declarations }
-    ensures { result ≡ list_any (λ e. same_thing e.what what) (take count program.now.shader.declarations) }
-{
-    for i in 0..count {
-        if is_same(program.declaration(i).what, what) {
-            return true;
-        }
-    }
-    false
-}
-
-/// The least place of an instruction, and the greatest number where there is none.
-fn least_place(program: &Program) -> u32
-    ensures { (place : ℕ) → place < 2 ^ 32 → list_any (λ i. nat_lt i.place place) program.now.shader.instructions ≡ nat_lt result place }
-{
-    let mut least = u32::MAX;
-    for i in 0..program.instructions() {
-        least = least.min(program.instruction(i).place);
-    }
-    least
-}
+/// A declaration of the thread group, of whatever size.
+const GROUP: Declaration = Declaration::Group { x: 0, y: 0, z: 0 };
 
 /// Whether a thread group may have these sizes.
 fn is_group_size(x: u32, y: u32, z: u32) -> bool
@@ -193,93 +138,98 @@ fn is_past(taken: Taken, what: Declaration) -> bool
         || passes(MOST_REGISTERS, taken.registers, registers_of(what))
 }
 
-/// The first rule that a declaration breaks, behind so many others, which take so much, where an
-/// instruction stands at that least place.
-fn refused_at(
-    program: &Program,
-    earliest: u32,
-    taken: Taken,
-    count: u32,
-    declared: Declared,
-) -> Option<Refusal>
-    requires { count ≤ length program.now.shader.declarations }
-    ensures first { result ≡ first_behind earliest taken.bytes taken.registers (take count program.now.shader.declarations) declared }
-    ensures phase { is_of_declarations result ≡ true }
-{
-    let place = declared.place;
-    let rule = if repeats(program, count, declared.what) {
-        Rule::L1
-    } else if earliest < place {
-        Rule::L2
-    } else if is_past(taken, declared.what) {
-        Rule::L3
-    } else if !is_sized(declared.what) {
-        Rule::L7
-    } else {
-        return None;
-    };
-    Some(Refusal { rule, place })
-}
-
-/// The first rule that a declaration breaks by itself or with those before it.
-fn refused_declaration(program: &Program) -> Option<Refusal>
-    ensures first { result ≡ first (refusals_from 0 program.now.shader [] program.now.shader.declarations) }
-    ensures phase { is_of_declarations result ≡ true }
-{
-    let earliest = least_place(program);
-    let mut taken = Taken {
+impl Taken {
+    /// Nothing is taken.
+    const NOTHING: Taken = Taken {
         bytes: 0,
         registers: 0,
     };
-    let mut found = None;
-    for i in 0..program.declarations() {
-        let declared = program.declaration(i);
-        found = first_of(found, refused_at(program, earliest, taken, i, declared));
-        taken = Taken {
-            bytes: taken.bytes.saturating_add(bytes_of(declared.what)),
-            registers: taken.registers.saturating_add(registers_of(declared.what)),
-        };
-    }
-    found
-}
 
-/// Whether a declaration is of the group.
-fn names_group(what: Declaration) -> bool
-    ensures { result ≡ declares_group what }
-{
-    matches!(what, Declaration::Group { .. })
-}
-
-/// Whether a thread group is declared.
-fn has_group(program: &Program) -> bool
-    ensures { result ≡ list_any (λ d. declares_group d.what) program.now.shader.declarations }
-{
-    for i in 0..program.declarations() {
-        if names_group(program.declaration(i).what) {
-            return true;
+    /// With what one more declaration takes.
+    fn with(self, what: Declaration) -> Taken
+        ensures bytes { result.bytes ≡ min (self.bytes + shared_bytes what) 18446744073709551615 }
+        ensures registers { result.registers ≡ min (self.registers + register_count what) 18446744073709551615 }
+    {
+        Taken {
+            bytes: self.bytes.saturating_add(bytes_of(what)),
+            registers: self.registers.saturating_add(registers_of(what)),
         }
     }
-    false
 }
 
-/// The refusal of a program that declares no thread group.
-fn refused_group(program: &Program) -> Option<Refusal>
-    ensures first { result ≡ first (broken (not (list_any (λ d. declares_group d.what) program.now.shader.declarations)) L4 program.now.shader.words) }
-    ensures phase { is_of_declarations result ≡ true }
+/// The first rule that a declaration breaks behind others, of which that is kept and which take so much,
+/// where an instruction stands at that least place.
+fn rule_of_declaration(
+    things: &Things,
+    earliest: u32,
+    taken: Taken,
+    declared: Declared,
+) -> Option<Rule>
+    ensures { result ≡ rule_behind things.now earliest taken.bytes taken.registers declared }
 {
-    if has_group(program) {
-        return None;
+    if things.has(declared.what) {
+        Some(Rule::L1)
+    } else if earliest < declared.place {
+        Some(Rule::L2)
+    } else if is_past(taken, declared.what) {
+        Some(Rule::L3)
+    } else if !is_sized(declared.what) {
+        Some(Rule::L7)
+    } else {
+        None
     }
-    Some(Refusal {
-        rule: Rule::L4,
-        place: program.words(),
-    })
 }
 
-/// The first rule that the declarations break.
-pub(crate) fn refused_declarations(program: &Program) -> Option<Refusal>
-    ensures first { result ≡ first (declaration_refusals 0 program.now.shader) }
+/// The place of the first instruction, and the greatest number where there is none.
+fn earliest_place(program: &Program) -> u32
+    requires order { AreInOrder (λ i. i.place) program.now.shader.words program.now.shader.instructions }
+    ensures { (place : ℕ) → place < 2 ^ 32
+        → list_any (λ i. nat_lt i.place place) program.now.shader.instructions ≡ nat_lt result place }
+{
+    if program.instructions() == 0 {
+        return u32::MAX;
+    }
+    program.instruction(0).place
+}
+
+/// The refusal of a rule on declarations that is broken, or that of a use before its place.
+fn with_uses(program: &Program, things: &Things, refusal: Refusal) -> Refusal
+    ensures { Some result ≡ or_refusal (used_before things.now refusal.place program.now.shader.instructions) refusal }
+{
+    match refused_before(program, things, refusal.place) {
+        Some(earlier) => earlier,
+        None => refusal,
+    }
+}
+
+/// The first rule that the declarations break, or what instructions use.
+///
+/// A declaration that stands behind an instruction breaks a rule. So up to the first one that breaks any
+/// all instructions see all declarations before it.
+pub(crate) fn refused_things(program: &Program) -> Option<Refusal>
+    requires untyped { program.now.shader.typed ≡ [] }
+    requires declarations { AreInOrder (λ d. d.place) program.now.shader.words program.now.shader.declarations }
+    requires instructions { AreInOrder (λ i. i.place) program.now.shader.words program.now.shader.instructions }
+    requires apart { AreApart program.now.shader.declarations program.now.shader.instructions }
+    ensures first { result ≡ first (thing_refusals program.now.shader) }
     ensures phase { is_of_declarations result ≡ true }
 {
-    first_of(refused_declaration(program), refused_group(program))
+    let earliest = earliest_place(program);
+    let mut things = Things::none();
+    let mut taken = Taken::NOTHING;
+    for i in 0..program.declarations() {
+        let declared = program.declaration(i);
+        if let Some(rule) = rule_of_declaration(&things, earliest, taken, declared) {
+            let place = declared.place;
+            return Some(with_uses(program, &things, Refusal { rule, place }));
+        }
+        things.declare(declared.what);
+        taken = taken.with(declared.what);
+    }
+    let place = program.words();
+    if things.has(GROUP) {
+        return refused_before(program, &things, place);
+    }
+    let rule = Rule::L4;
+    Some(with_uses(program, &things, Refusal { rule, place }))
 }
