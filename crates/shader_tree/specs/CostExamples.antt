@@ -76,7 +76,7 @@ written c scratch = Write Temps (Word c) (Scratch scratch)
 abbrev pub inserted : Term
 inserted = all (each (λ c. Set (20 + c) (Insert (r0 c) (r0 c) (r0 c) (r0 c))) ∷ each (λ c. written c (20 + c)) ∷ [])
 
-pub inserted_costs : sums inserted ≡ cost 636 124
+pub inserted_costs : sums inserted ≡ cost 648 128
 inserted_costs = refl
 
 pub inserted_below : is_below 11 inserted ≡ true

@@ -42,7 +42,8 @@ cost_at (term.One op a) = cost 24 4
 cost_at (term.Two op a b) = cost 12 2
 -- a bit field: width and offset cut, the rest of the word, the smaller width, the field
 cost_at (term.Three op a b c) = cost 30 5
-cost_at (term.Insert width offset inserted base) = cost 30 5
+-- no more bits than there are from the offset on: a comparison and a selection beside
+cost_at (term.Insert width offset inserted base) = cost 33 6
 -- a quotient: a divisor that is not 0 by a comparison and a selection, the quotient, a selection
 cost_at (term.First op a b) = cost 24 4
 cost_at (term.Second op a b) = cost 24 4
