@@ -14,13 +14,14 @@ use Rattle.tpf_program.specs.Values.{selected}
 use Rattle.tpf_program.specs.Writes.{in_mask, written_by}
 use Rattle.shader_tree.specs.declared.node.Node.{Node}
 use Rattle.shader_tree.specs.Values.{Spaces}
-use Rattle.raise_alu.specs.declared.operand.Operand.{Operand}
-use Rattle.raise_alu.specs.declared.operand.Operands.{Operands}
-use Rattle.raise_alu.specs.declared.vector.Vector.{Vector as Known}
-use Rattle.raise_alu.specs.Building.{AreOperands, IsOperandOf, seen, is_written_by, writes_first, writes_second}
-use Rattle.raise_alu.specs.Raising.{sources, first_written, second_written, target, target_by, reads_at, reads, above, first_waits, is_behind, second_waits}
-use Rattle.raise_alu.specs.Vectors.{Vector, vector, meets}
-use Rattle.raise_alu.specs.Waits.{is_read, are_read, known_target, known_target_by, of_four, first_reads, first_is_read, second_reads, second_is_read, stands_behind, second_is_late}
+use Rattle.raise_operands.specs.declared.operand.Operand.{Operand}
+use Rattle.raise_operands.specs.declared.operand.Operands.{Operands}
+use Rattle.raise_alu.specs.Computing.{writes_first, writes_second}
+use Rattle.raise_alu.specs.Waits.{is_read, are_read, of_four, first_reads, first_is_read, second_reads, second_is_read, stands_behind, second_is_late}
+use Rattle.raise_operands.specs.Building.{AreOperands, IsOperandOf, seen, is_written_by, known_target}
+use Rattle.raise_operands.specs.Raising.{sources, first_written, second_written, target, reads_at, reads, above, first_waits, is_behind, second_waits}
+use Rattle.raise_operands.specs.Laws.{OperandLaws}
+use Rattle.raise_operands.specs.Vectors.{Vector, vector, meets}
 
 abbrev pub four : List ℕ
 four = 0 ∷ 1 ∷ 2 ∷ 3 ∷ []
@@ -145,30 +146,21 @@ are_same nodes g Swaps os to c d n =
     (any_same _ _ _ _ (is_same nodes g 4 _ os.o4 to c d n.o4) refl))
 are_same nodes g other os to c d n = refl
 
-seen_target : (k : Kind) (v : Known) → seen (known_target_by k v) ≡ target_by k (seen v)
-seen_target kind.Temp v = refl
-seen_target kind.Indexable v = refl
-seen_target other v = refl
-
-pub target_same : (nodes : List Node) (g : Spaces) (k : ℕ) (a : Argument) (o : Operand) → IsOperandOf nodes g k a o → seen (known_target o) ≡ target g a
-target_same nodes g k a o n =
-    seen_target o.argument.kind o.place.vector ∙ ap (λ v. target_by o.argument.kind v) n.operand.vector ∙ ap (λ b. target g b) n.argument
-
 -- WHAT WAITS.
 reads_same : (nodes : List Node) (g : Spaces) (m : Meaning) (os : Operands) (to : Vector) (v : Vector) (c d : ℕ) → AreOperands nodes g os → to ≡ v
     → are_read m os to c d ≡ reads_at g (sources m os.instruction) v c d
 reads_same nodes g m os to v c d n e = are_same nodes g m os to c d n ∙ ap (λ x. reads_at g (sources m os.instruction) x c d) e
 
-pub first_same : (nodes : List Node) (g : Spaces) (m : Meaning) (os : Operands) (c : ℕ) → AreOperands nodes g os
+pub first_same : (l : OperandLaws) → (nodes : List Node) (g : Spaces) (m : Meaning) (os : Operands) (c : ℕ) → AreOperands nodes g os
     → first_is_read m os c ≡ first_waits m g os.instruction c
-first_same nodes g m os c n =
+first_same l nodes g m os c n =
     let i = os.instruction in
     let v = target g i.o0 in
     let f = reads_at g (sources m i) v c in
     let p = writes_first m i in
     let q = writes_second m i in
     four_same (first_reads m os c) (λ d. ((nat_lt c d && p d) || q d) && f d)
-    (λ d. ap (λ x. ((nat_lt c d && p d) || q d) && x) (reads_same nodes g m os _ v c d n (target_same nodes g 0 i.o0 os.o0 n.o0)))
+    (λ d. ap (λ x. ((nat_lt c d && p d) || q d) && x) (reads_same nodes g m os _ v c d n (l.target_same nodes g 0 i.o0 os.o0 n.o0)))
     ∙ sym (late f (λ d. nat_lt c d) p q)
     ∙ ap (λ xs. list_any f (above c xs ++ filter q four)) (sym (first_written_is m i))
     ∙ ap (λ ys. list_any f (above c (first_written m i) ++ ys)) (sym (second_written_is m i))
@@ -177,30 +169,31 @@ if_or : (a b : Bool) → (a || b) ≡ (if a then true else b)
 if_or true b = refl
 if_or false b = refl
 
-second_read_same : (nodes : List Node) (g : Spaces) (m : Meaning) (os : Operands) (c : ℕ) → AreOperands nodes g os
+second_read_same : (l : OperandLaws) → (nodes : List Node) (g : Spaces) (m : Meaning) (os : Operands) (c : ℕ) → AreOperands nodes g os
     → second_is_read m os c ≡ reads g (sources m os.instruction) (target g os.instruction.o1) c (above c (second_written m os.instruction))
-second_read_same nodes g m os c n =
+second_read_same l nodes g m os c n =
     let i = os.instruction in
     let v = target g i.o1 in
     let f = reads_at g (sources m i) v c in
     let q = writes_second m i in
     four_same (second_reads m os c) (λ d. (nat_lt c d && q d) && f d)
-    (λ d. ap (λ x. (nat_lt c d && q d) && x) (reads_same nodes g m os _ v c d n (target_same nodes g 1 i.o1 os.o1 n.o1)))
+    (λ d. ap (λ x. (nat_lt c d && q d) && x) (reads_same nodes g m os _ v c d n (l.target_same nodes g 1 i.o1 os.o1 n.o1)))
     ∙ sym (above_four f (λ d. nat_lt c d) q)
     ∙ ap (λ xs. list_any f (above c xs)) (sym (second_written_is m i))
 
-behind_same : (nodes : List Node) (g : Spaces) (m : Meaning) (os : Operands) (c : ℕ) → AreOperands nodes g os
+behind_same : (l : OperandLaws) → (nodes : List Node) (g : Spaces) (m : Meaning) (os : Operands) (c : ℕ) → AreOperands nodes g os
     → stands_behind m os c ≡ is_behind m g os.instruction c
-behind_same nodes g m os c n =
+behind_same l nodes g m os c n =
     let i = os.instruction in
     let one = seen (known_target os.o0) in
     let other = seen (known_target os.o1) in
-    ap (λ w. in_mask i.o0.select c && (w && meets one c other c)) (first_same nodes g m os c n)
-    ∙ ap (λ v. in_mask i.o0.select c && (first_waits m g i c && meets v c other c)) (target_same nodes g 0 i.o0 os.o0 n.o0)
-    ∙ ap (λ v. in_mask i.o0.select c && (first_waits m g i c && meets (target g i.o0) c v c)) (target_same nodes g 1 i.o1 os.o1 n.o1)
+    ap (λ w. in_mask i.o0.select c && (w && meets one c other c)) (first_same l nodes g m os c n)
+    ∙ ap (λ v. in_mask i.o0.select c && (first_waits m g i c && meets v c other c)) (l.target_same nodes g 0 i.o0 os.o0 n.o0)
+    ∙ ap (λ v. in_mask i.o0.select c && (first_waits m g i c && meets (target g i.o0) c v c)) (l.target_same nodes g 1 i.o1 os.o1 n.o1)
 
-pub second_same : (nodes : List Node) (g : Spaces) (m : Meaning) (os : Operands) (c : ℕ) → AreOperands nodes g os
+pub second_same : (l : OperandLaws) → (nodes : List Node) (g : Spaces) (m : Meaning) (os : Operands) (c : ℕ) → AreOperands nodes g os
     → second_is_late m os c ≡ second_waits m g os.instruction c
-second_same nodes g m os c n =
-    any_same _ _ _ _ (second_read_same nodes g m os c n) (behind_same nodes g m os c n)
-    ∙ if_or (reads g (sources m os.instruction) (target g os.instruction.o1) c (above c (second_written m os.instruction))) (is_behind m g os.instruction c)
+second_same l nodes g m os c n =
+    any_same _ _ _ _ (second_read_same l nodes g m os c n) (behind_same l nodes g m os c n)
+    ∙ if_or (reads g (sources m os.instruction) (target g os.instruction.o1) c (above c (second_written m os.instruction)))
+    (is_behind m g os.instruction c)

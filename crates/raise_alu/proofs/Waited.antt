@@ -3,12 +3,12 @@ use Rattle.std.proofs.Common.{◌≡◌, ℕ, Bool, true, false, List, [], ◌�
 use Rattle.std.specs.Prelude.{◌&&◌, ◌||◌}
 use Rattle.std.specs.List.{list_any}
 use Rattle.tpf_decode.specs.declared.meaning.Meaning.{Meaning}
-use Rattle.raise_alu.specs.declared.operand.Operand.{Operand}
-use Rattle.raise_alu.specs.declared.operand.Operands.{Operands}
-use Rattle.raise_alu.specs.Building.{seen}
-use Rattle.raise_alu.specs.Vectors as Vectors
-use Rattle.raise_alu.specs.Vectors.{Vector, Outside, meets}
-use Rattle.raise_alu.specs.Waits.{is_read, are_read, begun_sources, known_target, of_four, first_reads, first_is_read, second_reads, second_is_read, second_is_late}
+use Rattle.raise_operands.specs.declared.operand.Operand.{Operand}
+use Rattle.raise_operands.specs.declared.operand.Operands.{Operands}
+use Rattle.raise_alu.specs.Waits.{is_read, are_read, begun_sources, of_four, first_reads, first_is_read, second_reads, second_is_read, second_is_late}
+use Rattle.raise_operands.specs.Building.{seen, known_target}
+use Rattle.raise_operands.specs.Vectors.{Vector, Outside, meets}
+use Rattle.raise_operands.specs.Vectors as Vectors
 
 none_read : (c d : ℕ) (os : List Operand) → list_any (is_read Outside c d) os ≡ false
 none_read c d [] = refl

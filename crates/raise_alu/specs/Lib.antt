@@ -1,9 +1,2 @@
-pub mod Building
-pub mod CostExamples
-pub mod ExampleParts
-pub mod Examples
-pub mod Folding
-pub mod Raises
-pub mod Raising
-pub mod Vectors
+pub mod Computing
 pub mod Waits

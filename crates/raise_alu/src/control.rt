@@ -1,18 +1,16 @@
 ghost use Rattle.std.specs.Prelude.{◌≡◌, ◌+◌, ◌<◌, ◌≤◌, length};
 ghost use Rattle.shader_tree.specs.Nodes.{AStatement, AWord};
 ghost use Rattle.shader_tree.specs.Terms.{Makes, term_at};
-ghost use Rattle.raise_alu.specs.Building.{AreFew, Grows, IsNode, IsStep, step_of};
-ghost use Rattle.raise_alu.specs.Raises.{InRange, IsScalar, RaisesScalar};
-ghost use Rattle.raise_alu.specs.Raising.{scalar_front, scalar_word, source};
-ghost use Rattle.raise_alu.specs.Vectors.{keeps_index, spaces_of};
-ghost use Rattle.raise_alu.specs.Waits.{OfInstruction};
+ghost use Rattle.raise_operands.specs.Building.{AreFew, Grows, IsNode, IsStep, step_of};
+ghost use Rattle.raise_operands.specs.Raises.{InRange, IsScalar, RaisesScalar, OfInstruction};
+ghost use Rattle.raise_operands.specs.Raising.{scalar_front, scalar_word, source};
+ghost use Rattle.raise_operands.specs.Vectors.{keeps_index, spaces_of};
 
-use crate::index::operand;
-use crate::laws::raised_laws;
-use crate::operand::source;
-use crate::statement::stmt;
-use crate::value::id_of;
-use shader_tree::{Stmt, Tree};
+use raise_operands::{
+    begin_operand, count_laws, growing_laws, id_of, operand_laws, raised_laws, some_statement,
+    source,
+};
+use shader_tree::Tree;
 use tpf_program::{Argument, Program};
 
 /// The number that an instruction of control flow reads.
@@ -24,29 +22,19 @@ pub struct Scalar {
     pub word: u32,
 }
 
-/// The id of a statement, or of one that does nothing.
-fn some_statement(tree: &mut Tree, statement: Option<u32>) -> u32
-    requires statement { IsStep tree.old.nodes statement (step_of tree.old.nodes statement) }
-    requires room { length tree.old.nodes + 1 ≤ tree.old.capacity }
-    ensures grows { Grows tree.old tree.new 1 }
-    ensures makes { IsNode tree.new.nodes AStatement result (step_of tree.old.nodes statement) }
-{
-    match statement {
-        Some(id) => id,
-        None => stmt(tree, Stmt::Nothing),
-    }
-}
-
 /// The statement in front and the word of an operand's first component.
 fn scalar_of(tree: &mut Tree, program: &Program, argument: Argument) -> Scalar
     requires few { AreFew (spaces_of program.now.shader) }
     requires range { InRange argument }
     requires room { length tree.old.nodes + 21 ≤ tree.old.capacity }
     ensures grows { Grows tree.old tree.new 21 }
-    ensures front { IsNode tree.new.nodes AStatement result.front (keeps_index (spaces_of program.now.shader) 0 argument) }
+    ensures front { IsNode tree.new.nodes AStatement result.front (keeps_index
+        (spaces_of program.now.shader) 0 argument) }
     ensures word { IsNode tree.new.nodes AWord result.word (source (spaces_of program.now.shader) 0 argument 0) }
 {
-    let (operand, front) = operand(tree, program, 0, argument, None);
+    growing_laws();
+    operand_laws();
+    let (operand, front) = begin_operand(tree, program, 0, argument, None);
     let word = source(tree, program, operand, 0);
     let word = id_of(tree, word);
     let front = some_statement(tree, front);
@@ -61,13 +49,16 @@ pub fn scalar_operand(tree: &mut Tree, program: &Program, i: u32) -> Scalar
     requires there { i < length program.now.shader.instructions }
     requires scalar { OfInstruction program.now.shader i (IsScalar program.now.shader) }
     requires room { length tree.old.nodes + 21 ≤ tree.old.capacity }
-    ensures front { OfInstruction program.now.shader i (λ x. Makes tree.old.nodes tree.new.nodes AStatement result.front (scalar_front program.now.shader x)) }
-    ensures word { OfInstruction program.now.shader i (λ x. Makes tree.old.nodes tree.new.nodes AWord result.word (scalar_word program.now.shader x)) }
+    ensures front { OfInstruction program.now.shader i
+        (λ x. Makes tree.old.nodes tree.new.nodes AStatement result.front (scalar_front program.now.shader x)) }
+    ensures word { OfInstruction program.now.shader i (λ x. Makes tree.old.nodes tree.new.nodes AWord result.word
+        (scalar_word program.now.shader x)) }
     ensures raises { OfInstruction program.now.shader i (λ x. RaisesScalar program.now.shader x
         (term_at tree.new.nodes result.front) (term_at tree.new.nodes result.word)) }
     ensures few { length tree.new.nodes ≤ length tree.old.nodes + 21 }
     ensures rest { tree.new ≡ record tree.old { nodes = tree.new.nodes } }
 {
+    count_laws();
     raised_laws();
     let instruction = program.instruction(i);
     scalar_of(tree, program, instruction.o0)

@@ -1,32 +1,23 @@
 ghost use Rattle.std.specs.Prelude.{◌≡◌, ◌+◌, ◌<◌, ◌≤◌, IsTrue, false, if◌then◌else◌, length};
 ghost use Rattle.shader_tree.specs.Nodes.{a_word, has};
 ghost use Rattle.shader_tree.specs.Terms.{Nothing};
-ghost use Rattle.raise_alu.specs.Vectors.{Outside};
-ghost use Rattle.raise_alu.specs.Building.{CanWrite, Grows, IsStep, is_double, is_single, is_written, seen, writes_first, writes_second};
-ghost use Rattle.raise_alu.specs.Waits.{is_read, are_read, known_target, first_reads, first_is_read, second_reads, second_is_read, stands_behind, second_is_late, now_of, behind_of, turn_nodes};
+ghost use Rattle.raise_alu.specs.Computing.{is_double, is_single, writes_first, writes_second};
+ghost use Rattle.raise_alu.specs.Waits.{is_read, are_read, first_reads, first_is_read, second_reads, second_is_read, stands_behind, second_is_late, now_of, behind_of, turn_nodes};
+ghost use Rattle.raise_operands.specs.Building.{CanWrite, Grows, IsStep, is_written, seen, known_target};
+ghost use Rattle.raise_operands.specs.Vectors.{Outside};
 
-use crate::operand::{Operand, Operands, Place};
 use crate::statement::{Steps, write_in_turn};
-use crate::vector::{Vector, in_mask, is_written, meets, selected};
+use raise_operands::{
+    Operand, Operands, Place, Vector, in_mask, is_written, meets, selected, target,
+};
 use shader_tree::Tree;
 use tpf_decode::Meaning;
-use tpf_program::Kind;
 
 /// The steps of a component that is not written.
 pub(crate) const NONE: Steps = Steps {
     now: None,
     behind: None,
 };
-
-/// The vector of a destination: only registers are written.
-fn target(operand: Operand) -> Vector
-    ensures { result ≡ known_target operand }
-{
-    match operand.argument.kind {
-        Kind::Temp | Kind::Indexable => operand.place.vector,
-        _ => Vector::Outside,
-    }
-}
 
 /// Whether a source reads, for the component `d`, what may be the component `c` of a vector.
 fn is_read(operand: Operand, to: Vector, c: u8, d: u8) -> bool
@@ -191,7 +182,8 @@ pub(crate) fn first_turn(
     c: u8,
     value: u32,
 ) -> Steps
-    requires place { CanWrite tree.old.nodes (known_target operands.o0) operands.o0.place.number operands.o0.place.kept }
+    requires place { CanWrite tree.old.nodes
+        (known_target operands.o0) operands.o0.place.number operands.o0.place.kept }
     requires value { IsTrue (has tree.old.nodes (a_word value)) }
     requires component { c < 4 }
     requires room { length tree.old.nodes + turn_nodes (known_target operands.o0) c ≤ tree.old.capacity }
@@ -216,7 +208,8 @@ pub(crate) fn second_turn(
     c: u8,
     value: u32,
 ) -> Steps
-    requires place { CanWrite tree.old.nodes (known_target operands.o1) operands.o1.place.number operands.o1.place.kept }
+    requires place { CanWrite tree.old.nodes
+        (known_target operands.o1) operands.o1.place.number operands.o1.place.kept }
     requires value { IsTrue (has tree.old.nodes (a_word value)) }
     requires component { c < 4 }
     requires room { length tree.old.nodes + turn_nodes (known_target operands.o1) c ≤ tree.old.capacity }

@@ -1,13 +1,16 @@
 ghost use Rattle.std.specs.Prelude.{◌≡◌, ◌+◌, ◌<◌, ◌≤◌, length};
 ghost use Rattle.shader_tree.specs.Nodes.{AWord};
-ghost use Rattle.raise_alu.specs.declared.operand.Operand.{Operand};
-ghost use Rattle.raise_alu.specs.Building.{AreFew, AreOperands, Grows, IsNode, IsOperand, IsSecond, StandsFor, operation_nodes, source_nodes, sources_nodes};
-ghost use Rattle.raise_alu.specs.Folding.{unary_of, binary_of, ternary_of, insert_of, first_of, second_of, chosen};
-ghost use Rattle.raise_alu.specs.Raising.{computed, source};
-ghost use Rattle.raise_alu.specs.Vectors.{spaces_of};
+ghost use Rattle.raise_operands.specs.declared.operand.Operand.{Operand};
+ghost use Rattle.raise_alu.specs.Computing.{IsSecond, operation_nodes, sources_nodes};
+ghost use Rattle.raise_operands.specs.Building.{AreFew, AreOperands, Grows, IsNode, IsOperand, StandsFor, source_nodes};
+ghost use Rattle.raise_operands.specs.Folding.{unary_of, binary_of, ternary_of, insert_of, first_of, second_of, chosen};
+ghost use Rattle.raise_operands.specs.Raising.{computed, source};
+ghost use Rattle.raise_operands.specs.Vectors.{spaces_of};
 
-use crate::operand::{Operand, Operands, source};
-use crate::value::{Value, binary, expr, id_of, insert, pair, swapped, ternary, unary};
+use raise_operands::{
+    Operand, Operands, Value, binary, expr, growing_laws, id_of, insert, operand_laws, pair,
+    source, swapped, ternary, unary,
+};
 use shader_tree::{Expr, Tree};
 use tpf_decode::Meaning;
 use tpf_program::Program;
@@ -27,9 +30,13 @@ fn two_sources(
     requires component { component < 4 }
     requires room { length tree.old.nodes + (source_nodes a.argument + source_nodes b.argument) ≤ tree.old.capacity }
     ensures grows { Grows tree.old tree.new (source_nodes a.argument + source_nodes b.argument) }
-    ensures a { StandsFor tree.new.nodes result.0 (source (spaces_of program.now.shader) a.place.number a.argument component) }
-    ensures b { StandsFor tree.new.nodes result.1 (source (spaces_of program.now.shader) b.place.number b.argument component) }
+    ensures a { StandsFor tree.new.nodes result.0 (source
+        (spaces_of program.now.shader) a.place.number a.argument component) }
+    ensures b { StandsFor tree.new.nodes result.1 (source
+        (spaces_of program.now.shader) b.place.number b.argument component) }
 {
+    growing_laws();
+    operand_laws();
     let first = source(tree, program, a, component);
     let second = source(tree, program, b, component);
     (first, second)
@@ -49,12 +56,19 @@ fn three_sources(
     requires c { IsOperand tree.old.nodes (spaces_of program.now.shader) c }
     requires few { AreFew (spaces_of program.now.shader) }
     requires component { component < 4 }
-    requires room { length tree.old.nodes + (source_nodes a.argument + source_nodes b.argument + source_nodes c.argument) ≤ tree.old.capacity }
-    ensures grows { Grows tree.old tree.new (source_nodes a.argument + source_nodes b.argument + source_nodes c.argument) }
-    ensures a { StandsFor tree.new.nodes result.0 (source (spaces_of program.now.shader) a.place.number a.argument component) }
-    ensures b { StandsFor tree.new.nodes result.1 (source (spaces_of program.now.shader) b.place.number b.argument component) }
-    ensures c { StandsFor tree.new.nodes result.2 (source (spaces_of program.now.shader) c.place.number c.argument component) }
+    requires room { length tree.old.nodes +
+        (source_nodes a.argument + source_nodes b.argument + source_nodes c.argument) ≤ tree.old.capacity }
+    ensures grows { Grows tree.old tree.new
+        (source_nodes a.argument + source_nodes b.argument + source_nodes c.argument) }
+    ensures a { StandsFor tree.new.nodes result.0 (source
+        (spaces_of program.now.shader) a.place.number a.argument component) }
+    ensures b { StandsFor tree.new.nodes result.1 (source
+        (spaces_of program.now.shader) b.place.number b.argument component) }
+    ensures c { StandsFor tree.new.nodes result.2 (source
+        (spaces_of program.now.shader) c.place.number c.argument component) }
 {
+    growing_laws();
+    operand_laws();
     let (first, second) = two_sources(tree, program, a, b, component);
     let third = source(tree, program, c, component);
     (first, second, third)
@@ -76,14 +90,22 @@ fn four_sources(
     requires d { IsOperand tree.old.nodes (spaces_of program.now.shader) d }
     requires few { AreFew (spaces_of program.now.shader) }
     requires component { component < 4 }
-    requires room { length tree.old.nodes + (source_nodes a.argument + source_nodes b.argument + source_nodes c.argument + source_nodes d.argument)
+    requires room { length tree.old.nodes +
+        (source_nodes a.argument + source_nodes b.argument + source_nodes c.argument + source_nodes d.argument)
         ≤ tree.old.capacity }
-    ensures grows { Grows tree.old tree.new (source_nodes a.argument + source_nodes b.argument + source_nodes c.argument + source_nodes d.argument) }
-    ensures a { StandsFor tree.new.nodes result.0 (source (spaces_of program.now.shader) a.place.number a.argument component) }
-    ensures b { StandsFor tree.new.nodes result.1 (source (spaces_of program.now.shader) b.place.number b.argument component) }
-    ensures c { StandsFor tree.new.nodes result.2 (source (spaces_of program.now.shader) c.place.number c.argument component) }
-    ensures d { StandsFor tree.new.nodes result.3 (source (spaces_of program.now.shader) d.place.number d.argument component) }
+    ensures grows { Grows tree.old tree.new
+        (source_nodes a.argument + source_nodes b.argument + source_nodes c.argument + source_nodes d.argument) }
+    ensures a { StandsFor tree.new.nodes result.0 (source
+        (spaces_of program.now.shader) a.place.number a.argument component) }
+    ensures b { StandsFor tree.new.nodes result.1 (source
+        (spaces_of program.now.shader) b.place.number b.argument component) }
+    ensures c { StandsFor tree.new.nodes result.2 (source
+        (spaces_of program.now.shader) c.place.number c.argument component) }
+    ensures d { StandsFor tree.new.nodes result.3 (source
+        (spaces_of program.now.shader) d.place.number d.argument component) }
 {
+    growing_laws();
+    operand_laws();
     let (first, second, third) = three_sources(tree, program, a, b, c, component);
     let fourth = source(tree, program, d, component);
     (first, second, third, fourth)
@@ -96,7 +118,8 @@ fn one(tree: &mut Tree, program: &Program, op: Unary, a: Operand, component: u8)
     requires component { component < 4 }
     requires room { length tree.old.nodes + (source_nodes a.argument + 2) ≤ tree.old.capacity }
     ensures grows { Grows tree.old tree.new (source_nodes a.argument + 2) }
-    ensures makes { let word = λ (o : Operand). source (spaces_of program.now.shader) o.place.number o.argument component in
+    ensures makes { let word = λ (o : Operand). source
+        (spaces_of program.now.shader) o.place.number o.argument component in
         IsNode tree.new.nodes AWord result (unary_of op (word a)) }
 {
     let word = source(tree, program, a, component);
@@ -110,9 +133,11 @@ fn two(tree: &mut Tree, program: &Program, op: Binary, a: Operand, b: Operand, c
     requires b { IsOperand tree.old.nodes (spaces_of program.now.shader) b }
     requires few { AreFew (spaces_of program.now.shader) }
     requires component { component < 4 }
-    requires room { length tree.old.nodes + (source_nodes a.argument + source_nodes b.argument + 3) ≤ tree.old.capacity }
+    requires room { length tree.old.nodes +
+        (source_nodes a.argument + source_nodes b.argument + 3) ≤ tree.old.capacity }
     ensures grows { Grows tree.old tree.new (source_nodes a.argument + source_nodes b.argument + 3) }
-    ensures makes { let word = λ (o : Operand). source (spaces_of program.now.shader) o.place.number o.argument component in
+    ensures makes { let word = λ (o : Operand). source
+        (spaces_of program.now.shader) o.place.number o.argument component in
         IsNode tree.new.nodes AWord result (binary_of op (word a) (word b)) }
 {
     let (first, second) = two_sources(tree, program, a, b, component);
@@ -134,11 +159,15 @@ fn three(
     requires c { IsOperand tree.old.nodes (spaces_of program.now.shader) c }
     requires few { AreFew (spaces_of program.now.shader) }
     requires component { component < 4 }
-    requires room { length tree.old.nodes + (source_nodes a.argument + source_nodes b.argument + source_nodes c.argument + 4) ≤ tree.old.capacity }
-    ensures grows { Grows tree.old tree.new (source_nodes a.argument + source_nodes b.argument + source_nodes c.argument + 4) }
-    ensures makes { let word = λ (o : Operand). source (spaces_of program.now.shader) o.place.number o.argument component in
+    requires room { length tree.old.nodes +
+        (source_nodes a.argument + source_nodes b.argument + source_nodes c.argument + 4) ≤ tree.old.capacity }
+    ensures grows { Grows tree.old tree.new
+        (source_nodes a.argument + source_nodes b.argument + source_nodes c.argument + 4) }
+    ensures makes { let word = λ (o : Operand). source
+        (spaces_of program.now.shader) o.place.number o.argument component in
         IsNode tree.new.nodes AWord result (ternary_of op (word a) (word b) (word c)) }
 {
+    growing_laws();
     let (first, second, third) = three_sources(tree, program, a, b, c, component);
     ternary(tree, op, first, second, third)
 }
@@ -159,12 +188,16 @@ fn inserts(
     requires d { IsOperand tree.old.nodes (spaces_of program.now.shader) d }
     requires few { AreFew (spaces_of program.now.shader) }
     requires component { component < 4 }
-    requires room { length tree.old.nodes + (source_nodes a.argument + source_nodes b.argument + source_nodes c.argument + source_nodes d.argument + 5)
+    requires room { length tree.old.nodes +
+        (source_nodes a.argument + source_nodes b.argument + source_nodes c.argument + source_nodes d.argument + 5)
         ≤ tree.old.capacity }
-    ensures grows { Grows tree.old tree.new (source_nodes a.argument + source_nodes b.argument + source_nodes c.argument + source_nodes d.argument + 5) }
-    ensures makes { let word = λ (o : Operand). source (spaces_of program.now.shader) o.place.number o.argument component in
+    ensures grows { Grows tree.old tree.new
+        (source_nodes a.argument + source_nodes b.argument + source_nodes c.argument + source_nodes d.argument + 5) }
+    ensures makes { let word = λ (o : Operand). source
+        (spaces_of program.now.shader) o.place.number o.argument component in
         IsNode tree.new.nodes AWord result (insert_of (word a) (word b) (word c) (word d)) }
 {
+    growing_laws();
     let (width, offset, inserted, base) = four_sources(tree, program, a, b, c, d, component);
     insert(tree, width, offset, inserted, base)
 }
@@ -182,11 +215,14 @@ fn paired(
     requires b { IsOperand tree.old.nodes (spaces_of program.now.shader) b }
     requires few { AreFew (spaces_of program.now.shader) }
     requires component { component < 4 }
-    requires room { length tree.old.nodes + (source_nodes a.argument + source_nodes b.argument + 4) ≤ tree.old.capacity }
+    requires room { length tree.old.nodes +
+        (source_nodes a.argument + source_nodes b.argument + 4) ≤ tree.old.capacity }
     ensures grows { Grows tree.old tree.new (source_nodes a.argument + source_nodes b.argument + 4) }
-    ensures first { let word = λ (o : Operand). source (spaces_of program.now.shader) o.place.number o.argument component in
+    ensures first { let word = λ (o : Operand). source
+        (spaces_of program.now.shader) o.place.number o.argument component in
         IsNode tree.new.nodes AWord result.0 (first_of op (word a) (word b)) }
-    ensures second { let word = λ (o : Operand). source (spaces_of program.now.shader) o.place.number o.argument component in
+    ensures second { let word = λ (o : Operand). source
+        (spaces_of program.now.shader) o.place.number o.argument component in
         IsNode tree.new.nodes AWord result.1 (second_of op (word a) (word b)) }
 {
     let (first, second) = two_sources(tree, program, a, b, component);
@@ -207,13 +243,18 @@ fn swaps(
     requires b { IsOperand tree.old.nodes (spaces_of program.now.shader) b }
     requires few { AreFew (spaces_of program.now.shader) }
     requires component { component < 4 }
-    requires room { length tree.old.nodes + (source_nodes on.argument + source_nodes a.argument + source_nodes b.argument + 6) ≤ tree.old.capacity }
-    ensures grows { Grows tree.old tree.new (source_nodes on.argument + source_nodes a.argument + source_nodes b.argument + 6) }
-    ensures first { let word = λ (o : Operand). source (spaces_of program.now.shader) o.place.number o.argument component in
+    requires room { length tree.old.nodes +
+        (source_nodes on.argument + source_nodes a.argument + source_nodes b.argument + 6) ≤ tree.old.capacity }
+    ensures grows { Grows tree.old tree.new
+        (source_nodes on.argument + source_nodes a.argument + source_nodes b.argument + 6) }
+    ensures first { let word = λ (o : Operand). source
+        (spaces_of program.now.shader) o.place.number o.argument component in
         IsNode tree.new.nodes AWord result.0 (chosen (word on) (word a) (word b)) }
-    ensures second { let word = λ (o : Operand). source (spaces_of program.now.shader) o.place.number o.argument component in
+    ensures second { let word = λ (o : Operand). source
+        (spaces_of program.now.shader) o.place.number o.argument component in
         IsNode tree.new.nodes AWord result.1 (chosen (word on) (word b) (word a)) }
 {
+    growing_laws();
     let (truth, first, second) = three_sources(tree, program, on, a, b, component);
     swapped(tree, truth, first, second)
 }
@@ -230,10 +271,13 @@ pub(crate) fn words(
     requires few { AreFew (spaces_of program.now.shader) }
     requires component { component < 4 }
     requires operands { AreOperands tree.old.nodes (spaces_of program.now.shader) operands }
-    requires room { length tree.old.nodes + (sources_nodes meaning operands + operation_nodes meaning) ≤ tree.old.capacity }
+    requires room { length tree.old.nodes +
+        (sources_nodes meaning operands + operation_nodes meaning) ≤ tree.old.capacity }
     ensures grows { Grows tree.old tree.new (sources_nodes meaning operands + operation_nodes meaning) }
-    ensures first { IsNode tree.new.nodes AWord result.0 (computed meaning (spaces_of program.now.shader) operands.instruction component) }
-    ensures second { IsSecond tree.new.nodes meaning (spaces_of program.now.shader) operands.instruction component result.1 }
+    ensures first { IsNode tree.new.nodes AWord result.0 (computed meaning
+        (spaces_of program.now.shader) operands.instruction component) }
+    ensures second { IsSecond tree.new.nodes meaning
+        (spaces_of program.now.shader) operands.instruction component result.1 }
 {
     let o = operands;
     match meaning {

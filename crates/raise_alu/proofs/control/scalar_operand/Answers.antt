@@ -1,12 +1,12 @@
 use Rattle.std.proofs.Common.{sym, ap, subst, ◌∙◌}
 use Rattle.shader_tree.specs.Terms.{Term, term_at}
-use Rattle.raise_alu.specs.Raises.{RaisesScalar}
-use Rattle.raise_alu.specs.Raising.{scalar_front, scalar_word}
-use Rattle.raise_alu.proofs.Enough.{few_of, same_item}
+use Rattle.raise_operands.specs.Raises.{RaisesScalar}
+use Rattle.raise_operands.specs.Raising.{scalar_front, scalar_word}
+use Rattle.raise_alu.proofs.Enough.{same_item}
 use Rattle.raise_alu.proofs.control.scalar_operand.Goals as goal
 
 pub scalar_of-requires-clause-few : goal.scalar_of-requires-clause-few
-scalar_of-requires-clause-few c = few_of _ (c.requires.scalar _ c.instruction-instruction.ensures).spaces
+scalar_of-requires-clause-few c = c.count_laws.ensures.few _ (c.requires.scalar _ c.instruction-instruction.ensures).spaces
 
 pub scalar_of-requires-clause-range : goal.scalar_of-requires-clause-range
 scalar_of-requires-clause-range c = (c.requires.scalar _ c.instruction-instruction.ensures).o0

@@ -1,8 +1,8 @@
 use Rattle.std.proofs.Common.{sym, ap, subst, arith, ◌∙◌}
 use Rattle.tpf_program.specs.declared.instruction.Instruction.{Instruction}
 use Rattle.shader_tree.specs.Terms.{Term}
-use Rattle.raise_alu.specs.Raises.{Raises}
-use Rattle.raise_alu.specs.Raising.{statement_of}
+use Rattle.raise_operands.specs.Raises.{Raises}
+use Rattle.raise_operands.specs.Raising.{statement_of}
 use Rattle.raise_alu.proofs.Enough.{same_item, words_of_it}
 use Rattle.raise_alu.proofs.raising.expressions.Goals as goal
 

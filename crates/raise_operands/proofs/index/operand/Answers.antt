@@ -1,0 +1,14 @@
+use Rattle.raise_operands.proofs.Begun.{then_none}
+use Rattle.raise_operands.proofs.Growing.{as_step, grows_itself}
+use Rattle.raise_operands.proofs.index.operand.Goals as goal
+
+pub returns-in_default : goal.returns-in_default
+returns-in_default c = record {
+  grows = rw c.plain_operand.ensures.none (grows_itself _);
+  operand = record {
+    operand = c.plain_operand.ensures.operand _;
+    number = c.plain_operand.ensures.number;
+    argument = c.plain_operand.ensures.argument;
+  };
+  front = as_step _ _ _ _ c.requires.front (then_none _ _ c.plain_operand.ensures.nothing);
+}

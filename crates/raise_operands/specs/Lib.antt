@@ -1,0 +1,10 @@
+pub mod Building
+pub mod CostExamples
+pub mod ExampleParts
+pub mod Examples
+pub mod Folding
+pub mod Laws
+pub mod Raises
+pub mod Raising
+pub mod Runs
+pub mod Vectors
