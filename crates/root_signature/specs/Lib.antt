@@ -1,0 +1,12 @@
+pub mod Layout
+pub mod Covers
+pub mod Covering
+pub mod Refusals
+pub mod Signatures
+pub mod Examples
+pub mod Bests
+pub mod Lengths
+pub mod Runs
+pub mod Overlaps
+pub mod Thinning
+pub mod Parts
