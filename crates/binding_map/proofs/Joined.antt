@@ -15,7 +15,7 @@ at_end [] last x (suc i) h = absurd cc
 at_end (y ∷ xs) last x zero h = inl h
 at_end (y ∷ xs) last x (suc i) h = ⊎_elim inl (λ r. inr (ap suc r.0, r.1)) (at_end xs last x i h)
 
-same_number : (n : ℕ) → nat_eq n n ≡ true
+pub same_number : (n : ℕ) → nat_eq n n ≡ true
 same_number n = grind arith
 
 pub same_itself : (r : Register) → same_register r r ≡ true

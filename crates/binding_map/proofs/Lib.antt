@@ -4,6 +4,10 @@ mod Marked
 mod Least
 mod Numbered
 mod Whole
-mod Inhabited
+pub mod Inhabited
 mod Single
 mod DefaultBound
+pub mod LineParts
+pub mod TextRules
+pub mod Placed
+pub mod Covered

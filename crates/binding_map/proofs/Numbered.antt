@@ -35,7 +35,7 @@ follows rs ss old new e f =
     f ∙ (ap (λ l. l ++ numbered (length l) ss) e ∙ (ap (λ n. numbered 0 rs ++ numbered n ss) count ∙ sym (numbered_append 0 rs ss)))
 
 -- MARKED SLOTS.
-range_more : (a n : ℕ) → range_with_len a (n + 1) ≡ range_with_len a n ++ (a + n) ∷ []
+pub range_more : (a n : ℕ) → range_with_len a (n + 1) ≡ range_with_len a n ++ (a + n) ∷ []
 range_more a zero = let e : a ≡ a + 0 = omega arith in ap (λ x. x ∷ []) e
 range_more a (suc n) =
     let e : suc n + 1 ≡ suc (n + 1) = omega arith in

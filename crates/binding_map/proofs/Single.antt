@@ -35,7 +35,7 @@ module _ {X Y : Type 0} (h : X → Option Y) (test : Y → Bool) where
       (only xs i x y at_i gives t (λ j v w k g s. let e : suc i ≡ suc j = single (suc j) v w k g s in omega (arith, e)))
 
 -- THE PLACE OF A REGISTER
-same_is : (r s : Register) → same_register r s ≡ true → r ≡ s
+pub same_is : (r s : Register) → same_register r s ≡ true → r ≡ s
 same_is (Constant a) (Constant b) h = let e : a ≡ b = grind (arith, h) in ap Constant e
 same_is (Constant a) (Resource b) h = absurd (true≢false (sym h))
 same_is (Constant a) (Uav b) h = absurd (true≢false (sym h))

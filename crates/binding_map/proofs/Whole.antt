@@ -15,7 +15,7 @@ use Rattle.binding_map.specs.Numbering.{register_in, marked_below, marked_regist
 use Rattle.binding_map.proofs.Numbered.{follows}
 
 -- two tests that agree on some numbers choose the same of them
-same_choice : (f g : ℕ → Bool) (a n : ℕ) → ((k : ℕ) → a ≤ k → k < a + n → f k ≡ g k) → filter f (range_with_len a n) ≡ filter g (range_with_len a n)
+pub same_choice : (f g : ℕ → Bool) (a n : ℕ) → ((k : ℕ) → a ≤ k → k < a + n → f k ≡ g k) → filter f (range_with_len a n) ≡ filter g (range_with_len a n)
 same_choice f g a zero h = refl
 same_choice f g a (suc n) h =
     let first : f a ≡ g a = h a (omega arith) (omega arith) in

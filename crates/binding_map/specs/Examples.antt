@@ -6,12 +6,12 @@ use Rattle.word_base.specs.declared.rule.Rule.TheVariants.{B1}
 use Rattle.word_base.specs.Rules.{first, refusal}
 use Rattle.word_base.specs.Settings.{Setting}
 use Rattle.tpf_decode.specs.declared.argument.Kind.TheVariants as kind
-use Rattle.tpf_decode.specs.declared.argument.Select.TheVariants.{Bare}
+use Rattle.tpf_decode.specs.declared.argument.Select.TheVariants.{Bare, Mask, One}
 use Rattle.tpf_program.specs.declared.declaration.Declaration.{Declaration}
 use Rattle.tpf_program.specs.declared.declaration.Declaration.TheVariants as declared
 use Rattle.tpf_program.specs.declared.declaration.ViewKind.TheVariants.{Raw, Structured}
 use Rattle.tpf_program.specs.declared.instruction.Instruction.{Instruction}
-use Rattle.tpf_program.specs.ExampleParts.{slot_of, r0_to, instruction, bare, program_of}
+use Rattle.tpf_program.specs.ExampleParts.{slot_of, literal, r0, r0_to, instruction, bare, program_of}
 use Rattle.tpf_program.specs.Program.{Shader}
 use Rattle.tpf_program.specs.Spelling.{nothing}
 use Rattle.binding_map.specs.declared.register.Register.TheVariants.{Constant, Resource, Uav, Counter}
@@ -91,10 +91,15 @@ pub pushes : (places_of some_bound).pushes ≡ record { first = 1; count = 2; sl
 pushes = refl
 
 -- A program whose setting can be given: cb0 at a descriptor, cb1 in push constants, u0 null with its counter bound, and u1 of two
--- words.
+-- words. It steps the counter, stores to u0 at the number that it gets, and then that number and a word of cb1 to u1.
 abbrev pub given : Shader
-given =
-    program_of (declared.Constants 0 1 ∷ declared.Constants 1 2 ∷ structured 0 ∷ raw 1 ∷ []) (allocates 0 ∷ bare 62 ∷ [])
+given = program_of
+    (declared.Constants 0 1 ∷ declared.Constants 1 2 ∷ structured 0 ∷ raw 1 ∷ declared.Temps 1 ∷ declared.Group 1 1 1 ∷ [])
+    (allocates 0 ∷  -- imm_atomic_alloc r0.x, u0
+    instruction 168 0 (slot_of kind.Uav 0 (Mask 1)) (r0 0) (literal 0) (literal 9) ∷  -- store_structured u0.x, r0.x, l(0), l(9)
+    instruction 166 0 (slot_of kind.Uav 1 (Mask 1)) (literal 0) (r0 0) nothing ∷  -- store_raw u1.x, l(0), r0.x
+    instruction 166 0 (slot_of kind.Uav 1 (Mask 1)) (literal 4) (slot_of kind.Constant 1 (One 1)) nothing ∷  -- store_raw u1.x, l(4), cb1[0].y
+    bare 62 ∷ [])
 
 abbrev pub given_map : List Binding
 given_map =
@@ -113,6 +118,6 @@ given_setting = record {
   extent = given_extent;
 }
 
--- Its bindings owe nothing, and it fits (`proofs/Inhabited`).
+-- Its bindings owe nothing. That it fits is a clause of `binding_laws`.
 pub owes_nothing : binding_refusals given given_map ≡ []
 owes_nothing = refl

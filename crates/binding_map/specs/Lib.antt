@@ -7,4 +7,10 @@ pub mod Marks
 pub mod Numbering
 pub mod Completeness
 pub mod Fits
+pub mod Texts
+pub mod Lines
+pub mod Roots
+pub mod Growing
 pub mod Examples
+pub mod TextExamples
+pub mod RootExamples

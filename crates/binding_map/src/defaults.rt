@@ -18,7 +18,7 @@ pub(crate) enum Group {
     Counters,
 }
 
-fn register(group: Group, slot: u32) -> Register
+pub(crate) fn register(group: Group, slot: u32) -> Register
     ensures { result ≡ register_in group slot }
 {
     match group {

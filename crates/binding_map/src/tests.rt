@@ -1,19 +1,14 @@
+ghost use Rattle.std.specs.Prelude.{◌≡◌, ◌≤◌, ◌%◌, vec_len, IfOk};
+
 use super::*;
-use crate::completeness::lacks_binding;
 use crate::defaults::bind;
 use crate::registers::Registers;
+use root_signature::parse;
 use std::alloc::{AllocError, Global};
 use std::process::Abort;
 use std::test::Fail;
 use tpf_program::{Argument, Declaration, Instruction, Kind, Program, Select, ViewKind, read};
-use word_base::NoMemory;
-
-/// The opcodes of `imm_atomic_alloc`, `imm_atomic_consume` and `atomic_iadd`.
-const ALLOCATE: u32 = 178;
-
-const CONSUME: u32 = 179;
-
-const ADD: u32 = 173;
+use word_base::{Halt, NoMemory, Rule};
 
 /// An operand that is a u# of that slot.
 fn view(slot: u32) -> Argument {
@@ -68,7 +63,8 @@ fn uav(slot: u32) -> Declaration {
     }
 }
 
-/// The map of these declarations and instructions, each an opcode and the slot of its u#.
+/// The map of these declarations and instructions, each an opcode (178 is `imm_atomic_alloc`, 179
+/// `imm_atomic_consume`, 173 `atomic_iadd`) and the slot of its u#.
 fn map(
     alloc: Global,
     declarations: &[Declaration],
@@ -84,17 +80,21 @@ fn map(
     bind(alloc, &registers)
 }
 
-/// The map has these registers, at set 0 and the bindings 0, 1, 2 and so on.
-fn has(rt: &impl Abort, bindings: &Bindings, registers: &[Register]) {
-    assert_eq!(rt; bindings.len() as usize, registers.len());
-    for (i, register) in registers.iter().enumerate() {
-        let place = Place::Bound {
-            set: 0,
-            binding: i as u32,
-        };
+fn bound(register: Register, set: u32, binding: u32) -> (Register, Place) {
+    (register, Place::Bound { set, binding })
+}
+
+fn pushed(slot: u32, first: u32, count: u32) -> (Register, Place) {
+    (Register::Constant(slot), Place::Push { first, count })
+}
+
+/// The map has these entries, in this order.
+fn has(rt: &impl Abort, bindings: &Bindings, rows: &[(Register, Place)]) {
+    assert_eq!(rt; bindings.len() as usize, rows.len());
+    for (i, row) in rows.iter().enumerate() {
         assert!(rt; i < 1000);
-        assert_eq!(rt; bindings.at(i as u32), (*register, place));
-        assert_eq!(rt; bindings.place_of(*register), Some(place));
+        assert_eq!(rt; bindings.at(i as u32), *row);
+        assert_eq!(rt; bindings.place_of(row.0), Some(row.1));
     }
 }
 
@@ -102,53 +102,35 @@ fn has(rt: &impl Abort, bindings: &Bindings, registers: &[Register]) {
 fn numbers_registers(rt: HostRuntime) -> Result<(), Fail> {
     let alloc = rt.alloc();
     // A u# with a counter and one without.
-    let counting = map(
-        alloc,
-        &[uav(0), uav(1)],
-        &[(ALLOCATE, 0), (CONSUME, 0), (ADD, 1)],
-    )?;
-    has(
-        &rt,
-        &counting,
-        &[Register::Uav(0), Register::Uav(1), Register::Counter(0)],
-    );
+    let steps = [(178, 0), (179, 0), (173, 1)];
+    let counting = map(alloc, &[uav(0), uav(1)], &steps)?;
+    let rows = [
+        bound(Register::Uav(0), 0, 0),
+        bound(Register::Uav(1), 0, 1),
+        bound(Register::Counter(0), 0, 2),
+    ];
+    has(&rt, &counting, &rows);
     assert_eq!(rt; counting.place_of(Register::Counter(1)), None);
     assert_eq!(rt; counting.place_of(Register::Resource(0)), None);
     // The last slots of each kind, in another order.
-    let last = map(
-        alloc,
-        &[
-            uav(63),
-            resource(127),
-            constants(13),
-            resource(0),
-            constants(2),
-        ],
-        &[(CONSUME, 63)],
-    )?;
-    has(
-        &rt,
-        &last,
-        &[
-            Register::Constant(2),
-            Register::Constant(13),
-            Register::Resource(0),
-            Register::Resource(127),
-            Register::Uav(63),
-            Register::Counter(63),
-        ],
-    );
+    let declared = [
+        uav(63),
+        resource(127),
+        constants(13),
+        resource(0),
+        constants(2),
+    ];
+    let last = map(alloc, &declared, &[(179, 63)])?;
+    let rows = [
+        bound(Register::Constant(2), 0, 0),
+        bound(Register::Constant(13), 0, 1),
+        bound(Register::Resource(0), 0, 2),
+        bound(Register::Resource(127), 0, 3),
+        bound(Register::Uav(63), 0, 4),
+        bound(Register::Counter(63), 0, 5),
+    ];
+    has(&rt, &last, &rows);
     has(&rt, &map(alloc, &[Declaration::Temps(1)], &[])?, &[]);
-    Ok(())
-}
-
-#[test]
-fn asks_for_constant_buffers(rt: HostRuntime) -> Result<(), Fail> {
-    let bindings = map(rt.alloc(), &[constants(1), uav(2)], &[])?;
-    assert!(rt; !lacks_binding(&bindings, constants(1)));
-    assert!(rt; lacks_binding(&bindings, constants(2)));
-    assert!(rt; !lacks_binding(&bindings, resource(1)));
-    assert!(rt; !lacks_binding(&bindings, uav(0)));
     Ok(())
 }
 
@@ -163,5 +145,105 @@ fn binds_nothing(rt: HostRuntime) -> Result<(), Fail> {
     let bindings = from_default(rt.alloc(), &program)?;
     has(&rt, &bindings, &[]);
     assert_eq!(rt; complete(&program, &bindings), Ok(()));
+    Ok(())
+}
+
+fn text(rt: &impl Abort, alloc: Global, bytes: &[u8]) -> Result<Bindings, Halt> {
+    assert!(rt; bytes.len() <= 1000);
+    from_text(alloc, bytes)
+}
+
+/// Texts and the rule that they break, at a line; and where they break none, how many entries there are.
+#[test]
+fn texts_break_rules(rt: HostRuntime) {
+    let rows = [
+        (b"".as_slice(), None, 0),
+        (b"# a\nu0 1 4", None, 1),
+        (b"u0 1 4\nt0 1 4", Some(Rule::B2), 2),
+        (b"u0 1", Some(Rule::B3), 1),
+        (b"t0 0 0", None, 1),
+        // Places named twice, and push constant words.
+        (b"u0 1 4\nu00 1 5\n", Some(Rule::B2), 2),
+        (b"u0 1 4\n\n#\nu0 8 4\nx", Some(Rule::B2), 4),
+        (b"cb0 push 0 2\ncb1 push 1 1", Some(Rule::B2), 2),
+        (b"cb0 push 60 2\ncb1 push 61 9", Some(Rule::B2), 2),
+        (b"cb0 push 0 2\ncb1 push 2 62\ncb2 0 2", None, 3),
+        // Limits.
+        (b"cb13 7 65535\nt127 0 0\nu63 0 1\ncounter63 0 2", None, 4),
+        (b"u0 8 0", Some(Rule::B3), 1),
+        (b"cb0 push 63 2", Some(Rule::B3), 1),
+        (b"cb0 push 0 0", Some(Rule::B3), 1),
+        (b"cb0 push 9999999999 9999999999", Some(Rule::B3), 1),
+        (b"t128 0 0", Some(Rule::B3), 1),
+        (b"counter64 0 0", Some(Rule::B3), 1),
+        // Forms.
+        (b"u0   0000000001  5\r\nt0 1 6\r\n", None, 2),
+        (b"u0 0 0\r", Some(Rule::B3), 1),
+        (b"u0 0 0\n \n", Some(Rule::B3), 2),
+        (b" u0 0 0", Some(Rule::B3), 1),
+        (b"u0 0 0 ", Some(Rule::B3), 1),
+        (b"u0\t0 0", Some(Rule::B3), 1),
+        (b"u0 0 00000000000", Some(Rule::B3), 1),
+        (b"t0 push 0 1", Some(Rule::B3), 1),
+        (b"cb0 push 0 1 0", Some(Rule::B3), 1),
+        (b"u+1 0 0", Some(Rule::B3), 1),
+    ];
+    for (bytes, rule, place) in rows {
+        let answer = match text(&rt, rt.alloc(), bytes) {
+            Ok(bindings) => (None, bindings.len()),
+            Err(Halt::Refused(refusal)) => (Some(refusal.rule), refusal.place),
+            Err(Halt::NoMemory) => (None, 999),
+        };
+        assert_eq!(rt; answer, (rule, place));
+    }
+}
+
+#[test]
+fn texts_give_maps(rt: HostRuntime) -> Result<(), Fail> {
+    let lines = b"counter7 7 9\ncb2 push 3 61\ncb1 0 0\nt100 0 1\n";
+    let rows = [
+        bound(Register::Counter(7), 7, 9),
+        pushed(2, 3, 61),
+        bound(Register::Constant(1), 0, 0),
+        bound(Register::Resource(100), 0, 1),
+    ];
+    has(&rt, &text(&rt, rt.alloc(), lines)?, &rows);
+    Ok(())
+}
+
+/// cb0, t0 and u0 are declared, each with one element, and a group of one thread; and `ret`.
+const HISTOGRAM: [u32; 18] = [
+    0x00050050, 18, 0x04000059, 0x00208E46, 0, 1, 0x040000A2, 0x00107000, 0, 4, 0x0300009D,
+    0x0011E000, 0, 0x0400009B, 1, 1, 1, 0x0100003E,
+];
+
+/// Two root constants at cb0, a table with a range of one t0, and a descriptor of u0.
+const SIGNATURE: [u32; 40] = [
+    0x43425844, 0, 0, 0, 0, 1, 160, 1, 36, 0x30535452, 116, 2, 3, 24, 0, 0, 0, 1, 0, 60, 0, 0, 72,
+    4, 0, 104, 0, 0, 2, 1, 80, 0, 1, 0, 0, 0, 0, 0, 0, 0,
+];
+
+fn bytes_of(rt: &impl Abort, alloc: Global, words: &[u32]) -> Result<Vec<u8>, AllocError>
+    ensures { IfOk result (λ bytes. (8 ≤ vec_len bytes) × (vec_len bytes ≤ 1000) × (vec_len bytes % 4 ≡ 0)) }
+{
+    let mut bytes = Vec::new(alloc);
+    for word in words {
+        bytes.extend_from_slice(&word.to_le_bytes())?;
+    }
+    assert!(rt; 8 <= bytes.len() && bytes.len() <= 1000 && bytes.len() % 4 == 0);
+    Ok(bytes)
+}
+
+#[test]
+fn root_signatures_give_maps(rt: HostRuntime) -> Result<(), Fail> {
+    let alloc = rt.alloc();
+    let program = read(alloc, bytes_of(&rt, alloc, &HISTOGRAM)?.as_slice())?;
+    let root = parse(alloc, bytes_of(&rt, alloc, &SIGNATURE)?.as_slice())?;
+    let rows = [
+        pushed(0, 0, 2),
+        bound(Register::Resource(0), 0, 0),
+        bound(Register::Uav(0), 0, 1),
+    ];
+    has(&rt, &from_root(alloc, &root, &program)?, &rows);
     Ok(())
 }
