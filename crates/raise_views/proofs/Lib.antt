@@ -1,0 +1,16 @@
+pub mod Affording
+pub mod Fronts
+pub mod Given
+pub mod Growing
+pub mod Jobs
+pub mod Joining
+pub mod Locating
+pub mod Naming
+pub mod Owing
+pub mod Passing
+pub mod Performed
+pub mod Planning
+pub mod Rooms
+pub mod Spending
+pub mod Whole
+pub mod Working

@@ -1,0 +1,6 @@
+pub mod Counting
+pub mod Giving
+pub mod Guarding
+pub mod Guards
+pub mod Making
+pub mod Reaching
