@@ -1,0 +1,11 @@
+mod Places
+mod Balanced
+mod Around
+mod Frames
+mod Labels
+mod Moves
+mod SameSteps
+mod Following
+mod Leaving
+mod Chained
+mod Advancing

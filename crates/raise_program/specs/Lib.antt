@@ -1,0 +1,4 @@
+pub mod Spots
+pub mod SpotLane
+pub mod Raised
+pub mod Advances
