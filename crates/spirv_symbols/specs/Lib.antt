@@ -1,0 +1,12 @@
+pub mod Names
+pub mod Contexts
+pub mod Rows
+pub mod RowValues
+pub mod Tables
+pub mod Sections
+pub mod Orders
+pub mod Modules
+pub mod Sorted
+pub mod Starts
+pub mod Wants
+pub mod ModuleWords

@@ -1,0 +1,127 @@
+ghost use Rattle.std.specs.Prelude.{◌≡◌, ◌+◌, ◌*◌, ◌≤◌, length, false};
+ghost use Rattle.spirv_symbols.specs.Contexts.{IsSmall};
+ghost use Rattle.spirv_symbols.specs.Rows.{most_ids, most_words};
+ghost use Rattle.spirv_symbols.specs.Tables.{Stands, weight};
+
+use crate::{Ascending, Context, Declared, Section, Symbol, Symbols};
+use node_pool::Pool;
+use std::test::Fail;
+use word_base::Room;
+
+/// The id of a symbol of few needs, and 0 where the table has no room for them.
+fn id_of(symbols: &mut Symbols, context: &Context, symbol: Symbol) -> u32
+    requires stands { Stands context.now symbols.old }
+    requires few { most_ids context.now symbol ≤ 9 }
+    requires words { most_words context.now symbol ≤ 50 }
+    ensures stands { Stands context.now symbols.new }
+    ensures limit { symbols.new.limit ≡ symbols.old.limit }
+    ensures words { weight context.now symbols.new.entries ≤ weight context.now symbols.old.entries + 50 }
+{
+    if symbols.next() < 90 && 99 < symbols.limit() {
+        symbols.symbol(context, symbol)
+    } else {
+        0
+    }
+}
+
+/// Writes decorations, simple types, constants, and what follows them.
+fn put_front(symbols: &Symbols, context: &Context, ascending: &mut Ascending, words: &mut Pool<u32>)
+    requires stands { Stands context.now symbols.now }
+    requires small { IsSmall context.now }
+    requires few { symbols.now.limit ≤ ascending.old.capacity }
+    requires room { length words.old.list + 4 * weight context.now symbols.now.entries ≤ words.old.capacity }
+    ensures capacity { words.new.capacity ≡ words.old.capacity }
+    ensures places { ascending.new.capacity ≡ ascending.old.capacity }
+{
+    symbols.put_decorations(context, words);
+    symbols.put_section(context, Section::Types, words);
+    ascending.take_from(context, symbols);
+    ascending.put(symbols, words);
+    symbols.put_section(context, Section::Declarations, words);
+}
+
+/// A constant of a list, and 0 behind its end.
+fn constant_at(ascending: &Ascending, i: u32) -> u32 {
+    if i < ascending.len() {
+        ascending.at(i).word
+    } else {
+        0
+    }
+}
+
+/// Whether these are the words.
+fn are_words(words: &Pool<u32>, expected: &[u32]) -> bool {
+    let mut same = words.len() as usize == expected.len();
+    for (i, word) in expected.iter().enumerate() {
+        same = same && i < words.len() as usize && words.get(i as u32) == *word;
+    }
+    same
+}
+
+/// Constants that come falling have ids in their order, and ascend where they are listed.
+#[test]
+fn constants_ascend(rt: HostRuntime) -> Result<(), Fail> {
+    let context = Context::make(rt.alloc(), 1)?;
+    let mut symbols = Symbols::make(rt.alloc(), 100)?;
+    let mut ascending = Ascending::make(rt.alloc(), 100)?;
+    assert_eq!(rt;
+        id_of(&mut symbols, &context, Symbol::Constant(0x8000_0000)),
+        2
+    );
+    assert_eq!(rt; id_of(&mut symbols, &context, Symbol::Constant(9)), 3);
+    assert_eq!(rt; id_of(&mut symbols, &context, Symbol::Constant(4)), 4);
+    assert_eq!(rt; id_of(&mut symbols, &context, Symbol::Constant(9)), 3);
+    assert_eq!(rt; id_of(&mut symbols, &context, Symbol::Constant(0)), 5);
+    ascending.take_from(&context, &symbols);
+    assert_eq!(rt; ascending.len(), 4);
+    assert_eq!(rt;
+        (constant_at(&ascending, 0), constant_at(&ascending, 1)),
+        (0, 4)
+    );
+    assert_eq!(rt;
+        (constant_at(&ascending, 2), constant_at(&ascending, 3)),
+        (9, 0x8000_0000)
+    );
+    Ok(())
+}
+
+/// A view that is only read, at set 3 and binding 5, and a constant; then a table of a constant alone.
+#[test]
+fn sections_declare_symbols(rt: HostRuntime) -> Result<(), Fail> {
+    let view = Symbol::Memory(Room::Resource(7));
+    let mut context = Context::make(rt.alloc(), 1)?;
+    let mut symbols = Symbols::make(rt.alloc(), 100)?;
+    let mut ascending = Ascending::make(rt.alloc(), 100)?;
+    let mut words = Pool::make(rt.alloc(), 400)?;
+    context.declare(Declared {
+        variable: view,
+        size: 0,
+        set: 3,
+        binding: 5,
+        coherent: false,
+    });
+    assert_eq!(rt; id_of(&mut symbols, &context, view), 5);
+    assert_eq!(rt; id_of(&mut symbols, &context, Symbol::Constant(40)), 6);
+    put_front(&symbols, &context, &mut ascending, &mut words);
+    let declared = [
+        0x4_0047, 2, 6, 4, // OpDecorate ArrayStride 4
+        0x3_0047, 3, 2, // OpDecorate Block
+        0x5_0048, 3, 0, 35, 0, // OpMemberDecorate Offset 0
+        0x4_0048, 3, 0, 24, // OpMemberDecorate NonWritable
+        0x4_0047, 5, 34, 3, // OpDecorate DescriptorSet 3
+        0x4_0047, 5, 33, 5, // OpDecorate Binding 5
+        0x4_0015, 1, 32, 0, // OpTypeInt 32 0
+        0x3_001D, 2, 1, // OpTypeRuntimeArray
+        0x3_001E, 3, 2, // OpTypeStruct
+        0x4_0020, 4, 12, 3, // OpTypePointer StorageBuffer
+        0x4_002B, 1, 6, 40, // OpConstant
+        0x4_003B, 4, 5, 12, // OpVariable StorageBuffer
+    ];
+    assert!(rt; are_words(&words, &declared));
+    symbols.clear();
+    words.clear();
+    assert_eq!(rt; id_of(&mut symbols, &context, Symbol::Constant(40)), 2);
+    put_front(&symbols, &context, &mut ascending, &mut words);
+    assert!(rt; are_words(&words, &[0x4_0015, 1, 32, 0, 0x4_002B, 1, 2, 40]));
+    Ok(())
+}
