@@ -1,0 +1,110 @@
+-- What the code of barriers and fences does.
+use Rattle.std.proofs.Common.{◌≡◌, ℕ, ◌+◌, ◌<◌, List, [], ◌∷◌, Option, Some, None, refl, sym, ap, ◌∙◌, subst, arith, Bool, true, false}
+use Rattle.std.specs.Prelude.{slice_get, nat_lt, Ok, Err, IsTrue}
+use Rattle.std.proofs.lemmas.Bool.{lt-ltb}
+use Rattle.word_base.specs.Lanes.{Asks}
+use Rattle.word_base.specs.declared.event.Act.{Act}
+use Rattle.word_base.specs.declared.event.Act.TheVariants as act
+use Rattle.word_base.specs.declared.event.Classes.{Classes}
+use Rattle.word_base.specs.declared.event.Event.{Event}
+use Rattle.word_base.specs.declared.event.Event.TheVariants as event
+use Rattle.word_base.specs.declared.event.Room.{Room}
+use Rattle.word_base.specs.declared.event.Room.TheVariants as room
+use Rattle.word_base.specs.declared.event.Scope.{Scope}
+use Rattle.word_base.specs.declared.event.Scope.TheVariants as scope
+use Rattle.kept_values.specs.declared.word.Word.TheVariants as kept
+use Rattle.kept_values.specs.Tables.{dirty_in}
+use Rattle.shader_tree.specs.Terms.{Term}
+use Rattle.shader_tree.specs.Values.{Words}
+use Rattle.shader_tree.specs.Lane.{with_scratch, second_operand}
+use Rattle.spirv_words.specs.StorageClass as storage
+use Rattle.spirv_words.specs.Text.{Instr, instr}
+use Rattle.spirv_words.specs.Sorts.{Words as AreWords, sort_of}
+use Rattle.spirv_words.specs.Values.{Value, Word, AtRoom}
+use Rattle.spirv_words.specs.Memory.{scope_of, classes_of}
+use Rattle.spirv_words.specs.Globals.{Machine}
+use Rattle.spirv_words.specs.Lane.{State, step, with_value, goes_to}
+use Rattle.spirv_symbols.specs.declared.symbol.Symbol.TheVariants as symbols
+use Rattle.spirv_symbols.specs.declared.symbol.TypeSymbol.TheVariants as symbol
+use Rattle.spirv_symbols.specs.Tables.{Has}
+use Rattle.spirv_emit.specs.Emission.{Emission, next_of, spaces_of}
+use Rattle.spirv_emit.specs.Begun.{IsBegun}
+use Rattle.spirv_emit.specs.Blocks.{Alters, Meets, IsValue, Sets, Loads, Stores, Atomics, Syncs}
+use Rattle.spirv_emit.specs.Joins.{given, always, joined, only}
+use Rattle.spirv_words.specs.StorageClass.{has_events}
+use Rattle.spirv_emit.specs.Code.{is_loaded, is_stored}
+use Rattle.spirv_emit.specs.Lanes.{Site, IsWhole}
+use Rattle.spirv_emit.specs.Growing.{Completes}
+use Rattle.spirv_emit.specs.Rooms.{class_of, room_word, number_of_act, number_of_scope, semantics_of, semantics_by}
+use Rattle.spirv_emit.specs.Steps.{Adds, Acts, IsPut, Named}
+use Rattle.spirv_emit.specs.Values.{Slot, slot, a_word, Gives, valued}
+use Rattle.spirv_emit.proofs.Forms.{acts}
+use Rattle.spirv_emit.proofs.Giving.{then', only_gives, named_gives}
+use Rattle.spirv_emit.proofs.Memory.{PutsWell, sets_well}
+use Rattle.spirv_emit.proofs.Room.{has_below}
+use Rattle.spirv_emit.proofs.Stores.{there_named, event_meets, answer_meets, put_alters}
+
+-- scopes and semantics have their numbers
+scope_is : (x : Scope) → scope_of (number_of_scope x) ≡ Ok x
+scope_is scope.Device = refl
+scope_is scope.Group = refl
+
+classes_by : (b s : Bool) → classes_of (semantics_by b s) ≡ Ok (record { buffers = b; shared = s })
+classes_by false false = refl
+classes_by true false = refl
+classes_by false true = refl
+classes_by true true = refl
+
+classes_is : (c : Classes) → classes_of (semantics_of c) ≡ Ok c
+classes_is c = classes_by c.buffers c.shared
+
+module _ (z : Site) (s : State) (whole : IsWhole z) (k m : ℕ) (x : Scope) (c : Classes) (hk : s.values k ≡ Some (Word (number_of_scope x)))
+    (hm : s.values m ≡ Some (Word (semantics_of c))) where
+  barrier_step : (g : ℕ) → s.values g ≡ Some (Word 2) → slice_get z.machine.code s.place ≡ Some (instr 224 (g ∷ k ∷ m ∷ []))
+      → step z.machine s ≡ Asks (event.Barrier x c) (λ answer. goes_to s (s.place + 1))
+  barrier_step g hg at = acts z s (instr 224 (g ∷ k ∷ m ∷ [])) whole at ∙ rw (hg, hk, hm, scope_is x, classes_is c) refl
+
+  fence_step : slice_get z.machine.code s.place ≡ Some (instr 225 (k ∷ m ∷ [])) → step z.machine s ≡ Asks (event.Fence x c)
+      (λ answer. goes_to s (s.place + 1))
+  fence_step at = acts z s (instr 225 (k ∷ m ∷ [])) whole at ∙ rw (hk, hm, scope_is x, classes_is c) refl
+
+pub barrier_meets : (a b c d e : Emission) (g k m : ℕ) (x : Scope) (cl : Classes) → Gives a b [] (a_word g ∷ []) (always (Word 2))
+    → Gives b c [] (a_word k ∷ []) (always (Word (number_of_scope x)))
+    → Gives c d [] (a_word m ∷ []) (always (Word (semantics_of cl))) → Acts d e (instr 224 (g ∷ k ∷ m ∷ [])) → Meets a e (Syncs true x cl)
+barrier_meets a b c d e g k m x cl hg hk hm act =
+    let w2 = Word 2 in let wk = Word (number_of_scope x) in let wm = Word (semantics_of cl) in
+    let f1 = joined (always w2) [] (always wk) in
+    let g1 = then' a b c [] (a_word g ∷ []) [] (a_word k ∷ []) (always w2) (always wk) [] hg hk refl in
+    let f2 = joined f1 [] (always wm) in
+    let g2 = then' a c d [] (a_word k ∷ a_word g ∷ []) [] (a_word m ∷ []) f1 (always wm) [] g1 hm refl in
+    let rs = a_word g ∷ a_word k ∷ a_word m ∷ [] in
+    let g3 = only_gives a d [] (a_word m ∷ a_word k ∷ a_word g ∷ []) rs f2 (2 ∷ 1 ∷ 0 ∷ []) g2 refl in
+    event_meets a d e rs (only (2 ∷ 1 ∷ 0 ∷ []) f2) (instr 224 (g ∷ k ∷ m ∷ [])) g3 act refl (refl, refl)
+    (λ z comp l is. (is.0, (is.1.0, (is.1.1.0, tt)))) (Syncs true x cl)
+    (λ z comp t ev u l. (
+      l.1,
+      (
+        w2 ∷ wk ∷ wm ∷ [],
+        refl,
+        λ s at vs. barrier_step z s comp.whole k m x cl vs.1.0 vs.1.1.0 g vs.0 at ∙ ap (λ y. Asks y (λ answer. goes_to s (s.place + 1))) (sym l.0),
+      ),
+    ))
+
+pub fence_meets : (a b c d : Emission) (k m : ℕ) (x : Scope) (cl : Classes) → Gives a b [] (a_word k ∷ []) (always (Word (number_of_scope x)))
+    → Gives b c [] (a_word m ∷ []) (always (Word (semantics_of cl))) → Acts c d (instr 225 (k ∷ m ∷ [])) → Meets a d (Syncs false x cl)
+fence_meets a b c d k m x cl hk hm act =
+    let wk = Word (number_of_scope x) in let wm = Word (semantics_of cl) in
+    let f1 = joined (always wk) [] (always wm) in
+    let g1 = then' a b c [] (a_word k ∷ []) [] (a_word m ∷ []) (always wk) (always wm) [] hk hm refl in
+    let rs = a_word k ∷ a_word m ∷ [] in
+    let g2 = only_gives a c [] (a_word m ∷ a_word k ∷ []) rs f1 (1 ∷ 0 ∷ []) g1 refl in
+    event_meets a c d rs (only (1 ∷ 0 ∷ []) f1) (instr 225 (k ∷ m ∷ [])) g2 act refl (refl, refl)
+    (λ z comp l is. (is.0, (is.1.0, tt))) (Syncs false x cl)
+    (λ z comp t ev u l. (
+      l.1,
+      (
+        wk ∷ wm ∷ [],
+        refl,
+        λ s at vs. fence_step z s comp.whole k m x cl vs.0 vs.1.0 at ∙ ap (λ y. Asks y (λ answer. goes_to s (s.place + 1))) (sym l.0),
+      ),
+    ))

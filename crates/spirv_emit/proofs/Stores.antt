@@ -1,0 +1,305 @@
+-- One instruction behind a piece of code: without a result, or with one that is an answer.
+use Rattle.std.proofs.Common.{◌≡◌, ℕ, ◌+◌, ◌<◌, ◌≤◌, ◌^◌, ◌⊎◌, ⊎_elim, inl, inr, List, [], ◌∷◌, ◌++◌, length, Option, Some, None, refl, sym, ap, ◌∙◌, subst, arith, length-append, append-nil}
+use Rattle.std.specs.Prelude.{slice_get, Ok, Err, map, IsTrue}
+use Rattle.word_base.specs.Lanes.{Turn, Silent, Asks, Goes}
+use Rattle.word_base.specs.declared.event.Event.{Event}
+use Rattle.word_base.specs.declared.event.Event.TheVariants as event
+use Rattle.word_base.specs.declared.event.Room.{Room}
+use Rattle.kept_values.specs.declared.word.Word.{Word as Kept}
+use Rattle.kept_values.specs.declared.word.Word.TheVariants as kept
+use Rattle.kept_values.specs.Tables.{Table, id_in, dirty_in, Puts}
+use Rattle.shader_tree.specs.Values.{Words}
+use Rattle.shader_tree.specs.Lane.{with_scratch}
+use Rattle.spirv_words.specs.Definitions.{are_distinct}
+use Rattle.spirv_words.specs.Text.{Instr, instr, is_instr, words_of_instr}
+use Rattle.spirv_words.specs.Values.{Value, Word, AtLocal, AtRoom, Got}
+use Rattle.spirv_words.specs.Lane.{State, step, sets, with_value, with_memory, goes_to}
+use Rattle.spirv_symbols.specs.declared.symbol.Symbol.{Symbol}
+use Rattle.spirv_symbols.specs.declared.symbol.Symbol.TheVariants.{AType}
+use Rattle.spirv_symbols.specs.declared.symbol.TypeSymbol.TheVariants as symbol
+use Rattle.spirv_symbols.specs.declared.entry.Entry.{Entry}
+use Rattle.spirv_symbols.specs.Tables.{Has}
+use Rattle.spirv_emit.specs.Emission.{Emission, next_of}
+use Rattle.spirv_emit.specs.Code.{In, Typed, typed, typed_result, values, Defines, IsPlain, ArePlain, known_behind, behind, IsOf, IsTyped, AreTyped, Covers, CoversKept}
+use Rattle.spirv_emit.specs.Lanes.{Site, IsWhole, Mirrors, Stands, HasAt}
+use Rattle.spirv_emit.specs.Growing.{Same, Grows, Completes}
+use Rattle.spirv_emit.specs.Values.{Slot, slot, AreValues, AreBelow, AreKnown, Runs, Reaches, Knowing, Meaning, Gives, nothing}
+use Rattle.spirv_emit.specs.Steps.{Named, Adds, Acts, Settled, IsPut}
+use Rattle.spirv_emit.specs.Blocks.{Change, Behind, Alters, Meets}
+use Rattle.spirv_emit.proofs.Lists.{code_back, each_append, behind_append, typed_append}
+use Rattle.spirv_emit.proofs.Growth.{grows_on, completes_back, apart, settled_grows, add_grows, all_one, at_same, at_other, goes_join, runs_none, runs_on, runs_one, stands_front, one_defines}
+use Rattle.spirv_emit.proofs.Giving.{mirrors_value, plain_behind, ok_same}
+use Rattle.spirv_emit.proofs.Forms.{acts}
+use Rattle.spirv_emit.proofs.Memory.{stored, kept_differ, some_same, PutsWell, put_mirrors, sets_well}
+
+-- a symbol that is there
+pub there_named : (e : Emission) (s : Symbol) (r : ℕ) → Has e.symbols.entries s r → r < next_of e → Named e e s r
+there_named e s r has lt = record {
+  grows = settled_grows e e (record { same = record { frame = refl; limit = refl; capacity = refl; limits = refl }; code = refl; symbols = refl });
+  has = has;
+  below = lt;
+  kept = refl;
+}
+
+-- an instruction without a result
+none_defined : (i : Instr) → typed_result i ≡ [] → values (i ∷ []) ≡ []
+none_defined i e = ap (λ l. map (λ (x : Typed). x.id) l ++ []) e
+
+pub act_grows : (a b : Emission) (i : Instr) → typed_result i ≡ [] → Acts a b i → Grows a b (i ∷ [])
+act_grows a b i e h =
+    let next : next_of b ≡ next_of a = ap (λ t. t.next) h.symbols in
+    record {
+      same = h.same;
+      next = omega (arith, next);
+      code = h.code ∙ ap (λ l. a.code.list ++ l) (sym (append-nil (words_of_instr i)));
+      instructions = all_one is_instr i h.fits;
+      distinct = subst (λ l. IsTrue (are_distinct l)) (sym (none_defined i e)) refl;
+      has = λ n id k. subst (λ t. Has t.entries n id) (sym h.symbols) k;
+      later = λ n id k. inl (subst (λ t. Has t.entries n id) h.symbols k);
+      fresh = λ id d. absurd (subst (λ l. In l id) (none_defined i e) d);
+    }
+
+-- THE LANE at a store and at a load of a room.
+module _ (z : Site) (s : State) (whole : IsWhole z) where
+  pub store_step : (p x v i w : ℕ) → slice_get z.machine.code s.place ≡ Some (instr 62 (p ∷ x ∷ [])) → s.values p ≡ Some (AtLocal v i)
+      → s.values x ≡ Some (Word w)
+      → step z.machine s ≡ Silent (with_memory s (stored s.memory v i w))
+  store_step p x v i w at hp hx = acts z s (instr 62 (p ∷ x ∷ [])) whole at ∙ rw (hp, hx) refl
+
+-- BEHIND A PIECE OF CODE, in front of one more instruction.
+pub record Before (z : Site) (front : List Instr) (i : Instr) (table : Table) (rs : List Slot) (vs : List Value) (s : State) (t : Words) : Type 0
+  where
+    pub to : State
+    pub runs : Runs z front s to
+    pub mirrors : Mirrors z table to t
+    pub values : AreValues to.values rs vs
+    pub at : slice_get z.machine.code to.place ≡ Some i
+
+module _ (a b d : Emission) (rs : List Slot) (f : Meaning) (i : Instr) (x : Gives a b [] rs f) (g : Grows b d (i ∷ [])) where
+  pub before : (z : Site) → Completes d z → (s : State) (t : Words) (vs : List Value) → Stands z (x.seg ++ i ∷ []) a.kept s t → f z t [] ≡ Ok vs
+      → Before z x.seg i b.kept rs vs s t
+  before z comp s t vs st e =
+      let one = x.law z (completes_back b d (i ∷ []) z g comp) tt s t [] vs (stands_front z x.seg (i ∷ []) a.kept s t st) tt e in
+      record {
+        to = one.to;
+        runs = one.runs;
+        mirrors = one.mirrors;
+        values = one.values;
+        at = subst (λ p. slice_get z.machine.code p ≡ Some i) (sym one.runs.place) (code_back z.machine.code s.place x.seg (i ∷ []) st.here).0;
+      }
+
+  pub grown : Grows a d (x.seg ++ i ∷ [])
+  grown = grows_on a b d x.seg (i ∷ []) x.grows g
+
+  pub all_plain : IsPlain i → ArePlain (x.seg ++ i ∷ [])
+  all_plain p = each_append IsPlain x.seg (i ∷ []) x.plain (p, tt)
+
+  pub knowing : IsPlain i → (z : Site) → Completes d z → (gl k : List Typed) → Covers z.names z.frame.context k → CoversKept z.names a.kept k
+      → ((k : List Typed) → CoversKept z.names b.kept k → AreKnown z.names k rs → IsTyped z.names k i × CoversKept z.names d.kept
+      (typed_result i ++ k))
+      → Knowing z.names gl k (x.seg ++ i ∷ []) d.kept []
+  knowing plain z comp gl k cover keeps takes =
+      let p = x.known z (completes_back b d (i ∷ []) z g comp) gl k cover keeps tt in
+      let o = takes (behind gl k x.seg) p.kept p.results in
+      let same : behind gl k (x.seg ++ i ∷ []) ≡ typed_result i ++ behind gl k x.seg =
+      behind_append gl k x.seg (i ∷ []) ∙ plain_behind gl (behind gl k x.seg) i plain in
+      record {
+        typed = typed_append z.names gl k x.seg (i ∷ []) p.typed (o.0, tt);
+        kept = subst (CoversKept z.names d.kept) (sym same) o.1;
+        results = tt;
+      }
+
+-- A SILENT STORE, and what it leaves of the words that are kept.
+module _ (a b c d : Emission) (rs : List Slot) (f : Meaning) (i : Instr) (x : Gives a b [] rs f) (act : Acts b c i) (set : Settled c d)
+    (none : typed_result i ≡ []) (plain : IsPlain i)
+    (takes : (z : Site) → Completes d z → (k : List Typed) → CoversKept z.names b.kept k → AreKnown z.names k rs → IsTyped z.names k i × CoversKept
+    z.names d.kept k) where
+  acted : Grows b d (i ∷ [])
+  acted = grows_on b c d (i ∷ []) [] (act_grows b c i none act) (settled_grows c d set)
+
+  take : (z : Site) → Completes d z → (k : List Typed) → CoversKept z.names b.kept k → AreKnown z.names k rs
+      → IsTyped z.names k i × CoversKept z.names d.kept (typed_result i ++ k)
+  take z comp k keeps is = let o = takes z comp k keeps is in (o.0, subst (λ l. CoversKept z.names d.kept (l ++ k)) (sym none) o.1)
+
+  abbrev pub Does : Site → State → Words → Words → List Value → Type 0
+  Does z s t u vs =
+      slice_get z.machine.code s.place ≡ Some i → AreValues s.values rs vs → Mirrors z b.kept s t
+      → (m : ℕ → ℕ → Option ℕ) × (step z.machine s ≡ Silent (with_memory s m)) × Mirrors z d.kept (with_memory s m) u
+
+  stored_runs : (z : Site) (s : State) (m : ℕ → ℕ → Option ℕ) → step z.machine s ≡ Silent (with_memory s m) → Runs z (i ∷ []) s (with_memory s m)
+  stored_runs z s m h = record { goes = (with_memory s m, h, refl); place = refl; kept = λ id d. refl }
+
+  done : (z : Site) → Completes d z → (s : State) (t u : Words) (vs : List Value) → Stands z (x.seg ++ i ∷ []) a.kept s t → f z t [] ≡ Ok vs
+      → ((s : State) → Does z s t u vs) → (to : State) × Runs z (x.seg ++ i ∷ []) s to × Mirrors z d.kept to u
+  done z comp s t u vs st e does =
+      let p = before a b d rs f i x acted z comp s t vs st e in
+      let q = does p.to p.at p.values p.mirrors in
+      (with_memory p.to q.0, runs_on z x.seg (i ∷ []) s p.to (with_memory p.to q.0) p.runs (stored_runs z p.to q.0 q.1), q.2)
+
+  -- what the store does, where the words of the tree's lane change so
+  abbrev pub Effect : Change → Type 0
+  Effect E =
+      (z : Site) → Completes d z → (s : State) (t u : Words) → Mirrors z a.kept s t → E z t u
+      → (vs : List Value) × (f z t [] ≡ Ok vs) × ((s : State) → Does z s t u vs)
+
+  abbrev pub same_words : Change
+  same_words z t u = u ≡ t
+
+  pub flushed_gives : Effect same_words → Gives a d [] [] nothing
+  flushed_gives eff = record {
+    seg = x.seg ++ i ∷ [];
+    grows = grown a b d rs f i x acted;
+    plain = all_plain a b d rs f i x acted plain;
+    below = λ l. tt;
+    known = λ z comp gl k cover keeps is. knowing a b d rs f i x acted plain z comp gl k cover keeps (take z comp);
+    law = λ z comp l s t vs ws st v e.
+        let q = eff z comp s t t st.mirrors refl in
+        let o = done z comp s t t q.0 st q.1 q.2 in
+        record { to = o.0; runs = o.1; mirrors = o.2; values = subst (AreValues o.0.values []) (ok_same [] ws e) tt };
+  }
+
+  pub stored_alters : (E : Change) → Effect E → Alters a d E
+  stored_alters E eff = record {
+    seg = x.seg ++ i ∷ [];
+    grows = grown a b d rs f i x acted;
+    plain = all_plain a b d rs f i x acted plain;
+    known = λ z comp gl k cover keeps. knowing a b d rs f i x acted plain z comp gl k cover keeps (take z comp);
+    law = λ z comp s t u st e.
+        let q = eff z comp s t u st.mirrors e in
+        let o = done z comp s t u q.0 st q.1 q.2 in
+        (o.0, o.1.goes, record { place = o.1.place; mirrors = o.2 });
+  }
+
+-- AN EVENT without an answer.
+module _ (a b c : Emission) (rs : List Slot) (f : Meaning) (i : Instr) (x : Gives a b [] rs f) (act : Acts b c i) (none : typed_result i ≡ [])
+    (plain : IsPlain i)
+    (takes : (z : Site) → Completes c z → (k : List Typed) → AreKnown z.names k rs → IsTyped z.names k i) where
+  met : Grows b c (i ∷ [])
+  met = act_grows b c i none act
+
+  pub event_meets : (E : Site → Words → Event → (ℕ → Words) → Type 0)
+      → ((z : Site) → Completes c z → (t : Words) (e : Event) (u : ℕ → Words) → E z t e u
+      → (u ≡ (λ answer. t)) × ((vs : List Value) × (f z t [] ≡ Ok vs) × ((s : State) → slice_get z.machine.code s.place ≡ Some i
+      → AreValues s.values rs vs
+      → step z.machine s ≡ Asks e (λ answer. goes_to s (s.place + 1)))))
+      → Meets a c E
+  event_meets E eff = record {
+    seg = x.seg ++ i ∷ [];
+    grows = grown a b c rs f i x met;
+    plain = all_plain a b c rs f i x met plain;
+    known = λ z comp gl k cover keeps. knowing a b c rs f i x met plain z comp gl k cover keeps
+        (λ k keeps is. (
+          takes z comp k is,
+          subst (λ l. CoversKept z.names c.kept (l ++ k)) (sym none)
+              (subst (λ t. CoversKept z.names t k) (sym act.kept) keeps),
+        ));
+    law = λ z comp s t e u st h.
+        let q = eff z comp t e u h in
+        let p = before a b c rs f i x met z comp s t q.1.0 st q.1.1 in (
+          length x.seg,
+          p.to,
+          (λ answer. goes_to p.to (p.to.place + 1)),
+          omega (arith, length-append x.seg (i ∷ [])),
+          p.runs.goes,
+          q.1.2 p.to p.at p.values,
+          λ answer lt. record {
+            place = omega (arith, p.runs.place, length-append x.seg (i ∷ []));
+            mirrors = subst (Mirrors z c.kept (goes_to p.to (p.to.place + 1))) (sym (ap (λ (g : ℕ → Words). g answer) q.0))
+                (subst (λ k. Mirrors z k (goes_to p.to (p.to.place + 1)) t) (sym act.kept)
+                (record { knows = p.mirrors.knows; ids = p.mirrors.ids; inside = p.mirrors.inside; cells = p.mirrors.cells }));
+          },
+        );
+  }
+
+-- A WORD THAT WAITS.
+pub put_covers : (names : List Entry) (a b : Table) (w : Kept) (r : ℕ) (k l : List Typed) → Puts a b w r → CoversKept names a k
+    → ((y : Typed) → In k y → In l y)
+    → IsOf names l symbol.Word r → CoversKept names b l
+put_covers names a b w r k l h keeps more is y id q =
+    ⊎_elim
+    (λ (e : y ≡ w). let same : r ≡ id = some_same (sym h.here ∙ (ap (id_in b) (sym e) ∙ q)) in subst (IsOf names l symbol.Word) same is)
+    (λ d. let o = keeps y id (sym (h.other y d) ∙ q) in (o.0, o.1, more (typed id o.0) o.2)) (kept_differ y w)
+
+module _ (a b c : Emission) (w : Kept) (r : ℕ) (f : Meaning) (x : Gives a b [] (slot r symbol.Word ∷ []) f) (put : IsPut b c w r) where
+  pub put_alters : (E : Change)
+      → ((z : Site) → Completes c z → (t u : Words) → E z t u
+      → (n : ℕ) × (f z t [] ≡ Ok (Word n ∷ [])) × PutsWell z.frame w n (dirty_in b.kept) (dirty_in c.kept) t u)
+      → Alters a c E
+  put_alters E eff =
+      let g = settled_grows b c put.settled in
+      let all : Grows a c x.seg = subst (Grows a c) (append-nil x.seg) (grows_on a b c x.seg [] x.grows g) in
+      record {
+        seg = x.seg;
+        grows = all;
+        plain = x.plain;
+        known = λ z comp gl k cover keeps.
+            let p = x.known z (completes_back b c [] z g comp) gl k cover keeps tt in
+            record {
+              typed = p.typed;
+              kept = put_covers z.names b.kept c.kept w r (behind gl k x.seg) (behind gl k x.seg) put.puts p.kept
+                  (λ y i. i) p.results.0;
+              results = tt;
+            };
+        law = λ z comp s t u st e.
+            let q = eff z comp t u e in
+            let o = x.law z (completes_back b c [] z g comp) tt s t [] (Word q.0 ∷ []) st tt q.1 in (
+              o.to,
+              o.runs.goes,
+              record {
+                place = o.runs.place;
+                mirrors = put_mirrors z b.kept c.kept w r q.0 o.to t u put.puts q.2 o.values.0
+                    o.mirrors;
+              },
+            );
+      }
+
+-- AN EVENT whose answer is a scratch word that waits.
+module _ (a b c d : Emission) (rs : List Slot) (f : Meaning) (i : Instr) (r type n : ℕ) (x : Gives a b [] rs f) (add : Adds b c i r)
+    (put : IsPut c d (kept.Scratch n) r)
+    (one : typed_result i ≡ typed r type ∷ []) (plain : IsPlain i) (has : Has b.symbols.entries (AType symbol.Word) type)
+    (takes : (z : Site) → Completes b z → (k : List Typed) → AreKnown z.names k rs → IsTyped z.names k i) where
+  answered : Grows b d (i ∷ [])
+  answered = grows_on b c d (i ∷ []) [] (add_grows b c i r type one add) (settled_grows c d put.settled)
+
+  pub answer_meets : (E : Site → Words → Event → (ℕ → Words) → Type 0)
+      → ((z : Site) → Completes b z → (t : Words) (e : Event) (u : ℕ → Words) → E z t e u
+      → (u ≡ (λ answer. with_scratch t n answer)) × ((vs : List Value) × (f z t [] ≡ Ok vs) × ((s : State) → slice_get z.machine.code s.place ≡ Some i
+      → AreValues s.values rs vs → step z.machine s ≡ Asks e (λ answer. with_value s r (Word answer)))))
+      → Meets a d E
+  answer_meets E eff = record {
+    seg = x.seg ++ i ∷ [];
+    grows = grown a b d rs f i x answered;
+    plain = all_plain a b d rs f i x answered plain;
+    known = λ z comp gl k cover keeps. knowing a b d rs f i x answered plain z comp gl k cover keeps
+        (λ k keeps is.
+        let back = completes_back b d (i ∷ []) z answered comp in (
+          takes z back k is,
+          subst (λ l. CoversKept z.names d.kept (l ++ k)) (sym one)
+              (put_covers z.names c.kept d.kept (kept.Scratch n) r k (typed r type ∷ k) put.puts
+              (subst (λ t. CoversKept z.names t k) (sym add.kept) keeps) (λ y i. inr i)
+              (type, back.has (AType symbol.Word) type has, inl refl)),
+        ));
+    law = λ z comp s t e u st h.
+        let back = completes_back b d (i ∷ []) z answered comp in
+        let q = eff z back t e u h in
+        let p = before a b d rs f i x answered z comp s t q.1.0 st q.1.1 in (
+          length x.seg,
+          p.to,
+          (λ answer. with_value p.to r (Word answer)),
+          omega (arith, length-append x.seg (i ∷ [])),
+          p.runs.goes,
+          q.1.2 p.to p.at p.values,
+          λ answer lt.
+              let to = with_value p.to r (Word answer) in
+              let mid : Mirrors z b.kept to t = mirrors_value z b.kept p.to t r (Word answer)
+              (λ y id k e. apart b d (i ∷ []) z y id answered comp k (one_defines i r type id one (sym e)))
+              (λ y id k e. let lt = add.kept_below y id k in absurd (omega (arith, lt, e, add.result))) p.mirrors in
+              record {
+                place = omega (arith, p.runs.place, length-append x.seg (i ∷ []));
+                mirrors = subst (Mirrors z d.kept to) (sym (ap (λ (g : ℕ → Words). g answer) q.0))
+                    (put_mirrors z c.kept d.kept (kept.Scratch n) r answer to t (with_scratch t n answer) put.puts
+                    (sets_well z.frame n answer (dirty_in c.kept) (dirty_in d.kept) t put.puts.still put.puts.marked)
+                    (at_same p.to.values r (Some (Word answer))) (subst (λ k. Mirrors z k to t) (sym add.kept) mid));
+              },
+        );
+  }

@@ -1,0 +1,4 @@
+use Rattle.spirv_emit.proofs.emitter.Emitter.extended.Goals as goal
+
+pub id_of-requires : goal.id_of-requires
+id_of-requires c = c.requires.fixed.extended

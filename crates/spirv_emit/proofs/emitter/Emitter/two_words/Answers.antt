@@ -1,0 +1,14 @@
+use Rattle.std.proofs.Common.{refl, [], ◌∷◌}
+use Rattle.spirv_words.specs.Roles.{AWord, ATruth, APair}
+use Rattle.spirv_words.specs.Operations.{two}
+use Rattle.spirv_emit.proofs.Forms.{fits_row, two_gives}
+use Rattle.spirv_emit.proofs.emitter.Emitter.two_words.Goals as goal
+
+pub value-requires-clause-fits : goal.value-requires-clause-fits
+value-requires-clause-fits c = λ r. fits_row c.args.op c.word_type-type_id.result r (c.args.a ∷ c.args.b ∷ []) two AWord AWord c.requires.operation
+    refl refl
+
+pub returns-clause-gives : goal.returns-clause-gives
+returns-clause-gives c =
+    two_gives c.args.self.now _ c.args.op c.word_type-type_id.result c.value.result AWord AWord c.args.a c.args.b
+    c.requires.operation c.word_type-type_id.ensures c.value.ensures.adds

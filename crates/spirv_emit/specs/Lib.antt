@@ -1,0 +1,14 @@
+pub mod Begun
+pub mod Blocks
+pub mod Code
+pub mod Emission
+pub mod Expressions
+pub mod Growing
+pub mod Joins
+pub mod Lanes
+pub mod Operations
+pub mod Rooms
+pub mod Reads
+pub mod Spending
+pub mod Steps
+pub mod Values

@@ -1,0 +1,65 @@
+//! Words that wait go to memory.
+ghost use Rattle.std.specs.Prelude.{◌≡◌, ◌+◌, ◌≤◌, ◌<◌, [], ◌∷◌, length};
+ghost use Rattle.kept_values.specs.Tables.{dirty_in};
+ghost use Rattle.spirv_words.specs.StorageClass as storage;
+ghost use Rattle.spirv_symbols.specs.declared.symbol.Symbol.TheVariants.{AType, Constant as AConstant};
+ghost use Rattle.spirv_symbols.specs.declared.symbol.TypeSymbol.TheVariants.{WordPointer};
+ghost use Rattle.spirv_symbols.specs.Rows.{needs, words_of};
+ghost use Rattle.spirv_emit.specs.Begun.{IsBegun};
+ghost use Rattle.spirv_emit.specs.Emission.{words_left, ids_left};
+ghost use Rattle.spirv_emit.specs.Steps.{StoresTo};
+ghost use Rattle.spirv_emit.specs.Values.{Saves, Flushed};
+
+use crate::emitter::Emitter;
+use kept_values::Word;
+use spirv_symbols::Symbol;
+use spirv_words::op;
+
+impl Emitter {
+    /// Writes an id's word to the variable of one word.
+    pub(crate) fn store_to(&mut self, variable: Symbol, id: u32)
+        requires begun { IsBegun self.old }
+        requires needs { needs self.old.frame.context variable
+            ≡ AType (WordPointer storage.Function) ∷ AConstant 0 ∷ [] }
+        requires size { words_of self.old.frame.context variable ≡ 5 }
+        requires words { 8 ≤ words_left self.old }
+        requires ids { 1 ≤ ids_left self.old }
+        ensures stores { StoresTo self.old self.new variable id }
+        ensures begun { IsBegun self.new }
+        ensures words { words_left self.old ≤ words_left self.new + 8 }
+        ensures ids { ids_left self.old ≤ ids_left self.new + 1 }
+    {
+        let pointer = self.named(variable);
+        self.act(op::STORE, &[pointer, id]);
+    }
+
+    /// Writes the last of the words that wait to its variable.
+    fn save(&mut self)
+        requires begun { IsBegun self.old }
+        requires some { 0 < length (dirty_in self.old.kept) }
+        ensures saves { Saves self.old self.new }
+        ensures begun { IsBegun self.new }
+        ensures words { words_left self.old ≤ words_left self.new }
+        ensures ids { ids_left self.old ≤ ids_left self.new }
+    {
+        match self.take_waiting() {
+            Some((Word::Scratch(n), id)) => self.store_to(Symbol::Scratch(n), id),
+            Some((Word::Register(k), id)) => self.store_to(Symbol::Register(k), id),
+            Some((Word::Element(_), _)) => unreachable!(),
+            None => {},
+        }
+    }
+
+    /// Writes all words that wait to their variables: in front of the end of a block.
+    pub fn flush(&mut self)
+        requires { IsBegun self.old }
+        ensures flushed { Flushed self.old self.new }
+        ensures begun { IsBegun self.new }
+        ensures words { words_left self.old ≤ words_left self.new }
+        ensures ids { ids_left self.old ≤ ids_left self.new }
+    {
+        for _ in 0..self.kept.waiting() {
+            self.save();
+        }
+    }
+}
