@@ -16,12 +16,20 @@ use Rattle.tpf_program.specs.declared.instruction.Instruction.{Instruction}
 use Rattle.tpf_program.specs.Holding.{IsProgramOfWords, IsWellSpelled, SelectsInRange}
 use Rattle.tpf_program.specs.Program.{Shader}
 use Rattle.tpf_program.specs.Sizes.{Addressing, Bytes, Structures, addressing_of, addressing_declared, or_addressing}
-use Rattle.tpf_program.specs.Spelling.{Item, Declares, Types, Does, Lists, Skips, declarations_in, constants_in}
-use Rattle.tpf_program.specs.StraightLine.{is_built, IsStraightLine}
+use Rattle.tpf_decode.specs.Profiles.{Base}
+use Rattle.tpf_program.specs.Declarations.{declaration_refusals}
+use Rattle.tpf_program.specs.Spelling.{Spells, Item, Declares, Types, Does, Lists, Skips, declarations_in, constants_in}
+use Rattle.translator.specs.StraightLine.{is_built, IsStraightLine}
 use Rattle.translator.specs.Lowered.{IsLowerable}
 use Rattle.translator.specs.Raised.{At, AreAllOfWords, IsComponent, SelectComponents}
 use Rattle.translator.proofs.Limits.{few_registers, few_slots, few_words}
 use Rattle.translator.proofs.Wants.{is_plain}
+
+-- a straight line that words spell, without a broken rule on its declarations
+pub record IsReadLine (tokens : List ℕ) (p : Shader) : Type 0 where
+  pub spelled : Spells Base p tokens
+  pub sound : declaration_refusals 0 p ≡ []
+  pub form : IsStraightLine p
 
 -- no immediate constants
 no_constants : (items : List Item) → IsTrue (list_all (λ d. is_built d.what) (declarations_in items)) → constants_in items ≡ []
@@ -97,12 +105,12 @@ by_bytes typed k slot (d ∷ ds) h =
 bytes_are_none : (a : Addressing) (stride : ℕ) → a ≡ Bytes → a ≡ Structures stride → ⊥
 bytes_are_none a stride h k = cc (h, k)
 
-pub of_words : (tokens : List ℕ) (p : Shader) → IsStraightLine tokens p → IsProgramOfWords p
+pub of_words : (tokens : List ℕ) (p : Shader) → IsReadLine tokens p → IsProgramOfWords p
 of_words tokens p line = record {
   constants = λ k.
-      let none = line.spelled.constants ∙ no_constants line.spelled.items (subst (λ ds. IsTrue (list_all (λ d. is_built d.what) ds)) line.spelled.declarations line.declarations) in
+      let none = line.spelled.constants ∙ no_constants line.spelled.items (subst (λ ds. IsTrue (list_all (λ d. is_built d.what) ds)) line.spelled.declarations line.form.declarations) in
       subst (λ ws. slice_index ws k < 2 ^ 32) (sym none) (omega arith);
-  strides = λ k slot stride h. absurd (bytes_are_none _ stride (by_bytes p.typed k slot p.declarations line.declarations) h);
+  strides = λ k slot stride h. absurd (bytes_are_none _ stride (by_bytes p.typed k slot p.declarations line.form.declarations) h);
 }
 
 -- ITS INSTRUCTIONS, in range
@@ -129,14 +137,14 @@ components p h n i at =
       o4 = component i.o4.select w.o4;
     }
 
-pub lowerable : (tokens : List ℕ) (p : Shader) → IsStraightLine tokens p → AreWellSpelled p → IsLowerable p
+pub lowerable : (tokens : List ℕ) (p : Shader) → IsReadLine tokens p → AreWellSpelled p → IsLowerable p
 lowerable tokens p line h = record {
-  declarations = line.declarations;
+  declarations = line.form.declarations;
   temps = few_registers p line.sound;
   slots = few_slots p line.sound;
   words = few_words p line.sound;
-  instructions = line.instructions;
-  end = line.end;
+  instructions = line.form.instructions;
+  end = line.form.end;
   components = components p h;
 }
 

@@ -8,7 +8,7 @@ use Rattle.word_base.specs.Settings.{Setting}
 use Rattle.tpf_program.specs.declared.instruction.Instruction.{Instruction}
 use Rattle.tpf_decode.specs.Opcodes.{meaning_of, opcode_table}
 use Rattle.tpf_program.specs.Program.{Shader}
-use Rattle.tpf_program.specs.StraightLine.{returns}
+use Rattle.translator.specs.StraightLine.{returns}
 use Rattle.tpf_program.specs.Bytecode as bytecode
 use Rattle.spirv_words.specs.Smallest.{smallest}
 use Rattle.spirv_words.specs.Lane as lane

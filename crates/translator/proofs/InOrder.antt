@@ -7,7 +7,7 @@ use Rattle.std.proofs.lemmas.Bool.Decides.{nat_tests}
 use Rattle.tpf_program.specs.declared.instruction.Instruction.{Instruction}
 use Rattle.tpf_program.specs.Extents.{shared_extent}
 use Rattle.tpf_program.specs.Program.{Shader}
-use Rattle.tpf_program.specs.StraightLine.{is_built_in, is_place, is_shared, has_mask, returns, ReturnsAtEnd}
+use Rattle.translator.specs.StraightLine.{is_built_in, is_place, is_shared, has_mask, returns, ReturnsAtEnd}
 use Rattle.tpf_program.specs.Writes.{masked}
 use Rattle.translator.specs.declared.emission.Emitter.{Emitter}
 use Rattle.translator.specs.declared.line.Line.{Line}

@@ -9,7 +9,7 @@ use Rattle.tpf_program.specs.declared.declaration.Declared.{Declared}
 use Rattle.tpf_program.specs.declared.instruction.Instruction.{Instruction}
 use Rattle.tpf_decode.specs.Opcodes.{meaning_of, opcode_table}
 use Rattle.tpf_program.specs.Sizes.{temps_of}
-use Rattle.tpf_program.specs.StraightLine.{is_built_in, returns}
+use Rattle.translator.specs.StraightLine.{is_built_in, returns}
 use Rattle.tpf_program.specs.Views.{room_by}
 use Rattle.tpf_program.specs.Writes.{masked}
 use Rattle.spirv_words.specs.Globals.{Places}

@@ -1,6 +1,8 @@
 pub mod Ends
 pub mod Follows
 pub mod Whole
+pub mod LineTests
+pub mod Nulled
 pub mod Answered
 pub mod Computed
 pub mod Summed

@@ -6,7 +6,7 @@ use Rattle.word_base.specs.Lanes.{Turn, Ends}
 use Rattle.tpf_program.specs.declared.instruction.Instruction.{Instruction}
 use Rattle.tpf_program.specs.Declarations.{threads_in}
 use Rattle.tpf_program.specs.Program.{Shader}
-use Rattle.tpf_program.specs.StraightLine.{returns}
+use Rattle.translator.specs.StraightLine.{returns}
 use Rattle.spirv_words.specs.Smallest.{smallest}
 use Rattle.binding_map.specs.Bindings.{Binding}
 use Rattle.translator.specs.Dispatch.{setting_of}

@@ -16,7 +16,7 @@ use Rattle.tpf_program.specs.Holding.{HoldWords, IsProgramOfWords}
 use Rattle.tpf_decode.specs.Opcodes.{meaning_of, opcode_table}
 use Rattle.tpf_program.specs.Plans.{parts, made}
 use Rattle.tpf_program.specs.Program.{Shader}
-use Rattle.tpf_program.specs.StraightLine.{returns}
+use Rattle.translator.specs.StraightLine.{returns}
 use Rattle.tpf_program.specs.Values.{context}
 use Rattle.translator.specs.Raised.{Plans, Left, HasRooms, GoesOn, AllDo, AreAllOfWords, size_of}
 use Rattle.translator.specs.Terms.{Statement, Stand, no_words, stand, push, push_all, step}

@@ -21,7 +21,7 @@ use Rattle.tpf_decode.specs.declared.meaning.Meaning.TheVariants.{StoreRaw}
 use Rattle.tpf_program.specs.Plans.{made, store_part, stores}
 use Rattle.tpf_program.specs.Program.{Shader}
 use Rattle.tpf_program.specs.Sizes.{temps_of}
-use Rattle.tpf_program.specs.StraightLine.{is_place, is_address}
+use Rattle.translator.specs.StraightLine.{is_place, is_address}
 use Rattle.tpf_program.specs.Values.{Context, context, value}
 use Rattle.tpf_program.specs.Views.{AtByte, raw_at}
 use Rattle.tpf_program.specs.Writes.{masked}

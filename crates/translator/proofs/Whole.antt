@@ -10,7 +10,7 @@ use Rattle.tpf_program.specs.Bytecode as bytecode
 use Rattle.tpf_program.specs.Extents.{shared_extent}
 use Rattle.tpf_program.specs.Holding.{IsProgramOfWords}
 use Rattle.tpf_program.specs.Program.{Shader}
-use Rattle.tpf_program.specs.StraightLine.{is_built_in}
+use Rattle.translator.specs.StraightLine.{is_built_in}
 use Rattle.translator.specs.ModuleShape.{HasShape}
 use Rattle.translator.specs.Shape.{cases_in}
 use Rattle.translator.proofs.Items.{store_item, items_are, slots_last}

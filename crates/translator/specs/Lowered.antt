@@ -5,7 +5,7 @@ use Rattle.tpf_program.specs.declared.instruction.Instruction.{Instruction}
 use Rattle.tpf_program.specs.Extents.{shared_extent}
 use Rattle.tpf_program.specs.Program.{Shader}
 use Rattle.tpf_program.specs.Sizes.{temps_of}
-use Rattle.tpf_program.specs.StraightLine.{is_built, is_built_in, returns, ReturnsAtEnd}
+use Rattle.translator.specs.StraightLine.{is_built, is_built_in, returns, ReturnsAtEnd}
 use Rattle.translator.specs.declared.emission.Emitter.{Emitter}
 use Rattle.translator.specs.Emission.{Lowers}
 use Rattle.translator.specs.Finished.{shared_slots, shared_words}

@@ -17,7 +17,7 @@ use Rattle.tpf_decode.specs.declared.meaning.Meaning.{Meaning}
 use Rattle.tpf_decode.specs.declared.meaning.Meaning.TheVariants.{One as OnOne, StoreRaw, Nop}
 use Rattle.tpf_program.specs.Program.{Shader}
 use Rattle.tpf_program.specs.Sizes.{temps_of}
-pub use Rattle.tpf_program.specs.StraightLine.{is_temp, is_null, is_literal, is_shared, has_mask, is_register, is_destination, is_source, is_nop, is_move, is_sum, is_saturated, is_store, is_built_in}
+pub use Rattle.translator.specs.StraightLine.{is_temp, is_null, is_literal, is_shared, has_mask, is_register, is_destination, is_source, is_nop, is_move, is_sum, is_saturated, is_store, is_built_in}
 use Rattle.tpf_program.specs.Values.{Context}
 use Rattle.tpf_program.specs.Writes.{masked}
 use Rattle.binding_map.specs.Fits.{is_null_in}

@@ -12,18 +12,22 @@ ghost use Rattle.spirv_words.specs.Lane as lane;
 ghost use Rattle.tpf_program.specs.declared.instruction.Instruction.{Instruction as Spelled};
 ghost use Rattle.tpf_program.specs.Bytecode.{State};
 ghost use Rattle.tpf_program.specs.Program.{Shader};
-ghost use Rattle.tpf_program.specs.StraightLine.{returns};
+ghost use Rattle.translator.specs.StraightLine.{returns};
 ghost use Rattle.spirv_words.specs.Smallest.{smallest};
 ghost use Rattle.binding_map.specs.Bindings.{Binding};
+ghost use Rattle.binding_map.specs.Examples.{given, given_map};
 ghost use Rattle.binding_map.specs.Fits.{Fits};
 ghost use Rattle.translator.specs.Dispatch.{Dispatch, Shares, IsDispatch};
 ghost use Rattle.translator.specs.Runs.{Machine, HasValue, Leads};
+ghost use Rattle.translator.specs.NullExamples.{with_null};
 ghost use Rattle.translator.specs.RunExamples.{summing, one_group, in_turns, run_by};
 ghost use Rattle.translator.specs.SameRuns.{SameRuns, ProgramRuns, ModuleRuns};
 ghost use Rattle.translator.specs.ModuleShape.{HasShape};
 ghost use Rattle.translator.specs.ShapeExamples.{u0_bound, storing, hiding};
 ghost use Rattle.translator.specs.WantedExamples.{one_buffer, b0_bound, b0_pushed, with_buffer};
 ghost use Rattle.translator.specs.WrongExamples.{loud_in};
+
+use binding_map::binding_laws;
 
 /// What holds of runs over picks, for the proofs of callers. It does nothing when it runs.
 ///
@@ -42,16 +46,19 @@ pub fn run_laws()
 /// What holds of whole dispatches, for the proofs of callers. It does nothing when it runs.
 ///
 /// A program that returns at once has the runs of the module that does, under every dispatch and
-/// list of picks; there is a dispatch of another program whose run has a value, and one with a
-/// constant buffer, at a descriptor or in push constants.
-#[tactic(auto, using(crate::proofs::Summed::is_dispatch, crate::proofs::Buffered::at_descriptor, crate::proofs::Buffered::in_push_words))]
+/// list of picks; there is a dispatch of another program whose run has a value, one with a constant
+/// buffer, at a descriptor or in push constants, and one with a null view beside its bound counter.
+#[tactic(auto, using(crate::proofs::Summed::is_dispatch, crate::proofs::Buffered::at_descriptor, crate::proofs::Buffered::in_push_words, crate::proofs::Nulled::is_dispatch))]
 pub fn dispatch_laws()
     ensures same { (x y z : ℕ) (p : Shader) (bindings : List Binding) (i : Spelled) → p.instructions ≡ i ∷ [] → IsTrue (returns i) → SameRuns Base p bindings (smallest 0x00010300 x y z) }
     ensures at_descriptor { IsDispatch (threads_in one_buffer.declarations) (Fits one_buffer b0_bound) with_buffer }
     ensures in_push_words { IsDispatch (threads_in one_buffer.declarations) (Fits one_buffer b0_pushed) with_buffer }
+    ensures with_null { IsDispatch (threads_in given.declarations) (Fits given given_map) with_null }
     ensures dispatch { IsDispatch (threads_in summing.declarations) (Fits summing u0_bound) one_group }
     ensures run { (value : Shares) × ProgramRuns Base summing one_group in_turns value }
-{}
+{
+    binding_laws();
+}
 
 /// What turns and runs that are found by computation say of lanes and dispatches, for the examples.
 /// It does nothing when it runs.

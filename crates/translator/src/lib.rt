@@ -3,7 +3,7 @@
 //!
 //! The definitions stand in `specs/`: `Means` says what a module owes to the program that it was
 //! translated from, under a binding map of `binding_map`, `Wanted` which variables a module has for
-//! both, `Input` which rules are broken. `Runs`, `Dispatch` and `SameRuns` say what whole dispatches do
+//! both, `Input` which rules are broken, `StraightLine` the form that is built. `Runs`, `Dispatch` and `SameRuns` say what whole dispatches do
 //! on both sides, `Shape` and `ModuleShape` which loops, switches and events each side has.
 #![tactic(auto)]
 
@@ -17,6 +17,7 @@ mod names;
 mod naming;
 mod raise;
 mod statements;
+mod straight_line;
 mod translation;
 mod tree;
 mod writing;
