@@ -5,6 +5,7 @@ use crate::{Status, run};
 use dxbc_container::build;
 use outside::{Desk, Failed, MemoryDesk, MemorySink, QuietDesk, QuietSink, Sink, Words};
 use std::alloc::{AllocError, Global};
+use std::process::Abort;
 use std::test::Fail;
 use word_base::NoMemory;
 
@@ -47,6 +48,8 @@ const K10: &str = "vkd3d-compiler: K10 at 12: modifier not allowed here\n";
 const M1: &str = "vkd3d-compiler: M1 at 16777216: file too large\n";
 
 const M2: &str = "vkd3d-compiler: M2 at 1: program too long\n";
+
+const U1: &str = "vkd3d-compiler: U1 at 0: form not built yet\n";
 
 const USAGE: &str = "vkd3d-compiler: wrong words\n";
 
@@ -168,25 +171,146 @@ fn words_and_faults(rt: HostRuntime) -> Result<(), Fail> {
     Ok(())
 }
 
-/// Programs on standard input with one word changed, and the line of the first broken rule.
+/// The program on standard input is refused with this line, and nothing is written.
+fn refuses(rt: &impl Abort, alloc: Global, tokens: &[u32], line: &str) -> Result<(), NoMemory> {
+    let bytes = container(alloc, tokens)?;
+    let left = run_on(alloc, "", &bytes, [0, 0, 0])?;
+    assert_eq!(rt; left.status, Status::Refused);
+    assert!(rt; left.out.bytes().is_empty());
+    assert_eq!(rt; left.err.bytes(), line.as_bytes());
+    Ok(())
+}
+
+/// Programs with one word changed, and the line of the first broken rule: of their tokens, or of a form
+/// that is not built yet, as a store past the end of shared memory.
 #[test]
 fn refusals(rt: HostRuntime) -> Result<(), Fail> {
-    let rows: [(&[u32], usize, u32, &str); 4] = [
+    let rows: [(&[u32], usize, u32, &str); 5] = [
         (&SMALLEST, 6, 0x0200003E, K3),
         (&SMALLEST, 6, 0x01000000, K4),
         (&STRAIGHT, 13, 0x08000000, K4_LATER),
         (&NEGATED, 11, 0x8010001A, K10),
+        (&STRAIGHT, 32, 4, U1),
     ];
     for (program, place, word, line) in &rows {
         let mut tokens = Vec::from_slice(rt.alloc(), program)?;
         if let Some(token) = tokens.get_mut(*place) {
             *token = *word;
         }
-        let bytes = container(rt.alloc(), &tokens)?;
-        let left = run_on(rt.alloc(), "", &bytes, [0, 0, 0])?;
-        assert_eq!(rt; left.status, Status::Refused);
-        assert!(rt; left.out.bytes().is_empty());
-        assert_eq!(rt; left.err.bytes(), line.as_bytes());
+        refuses(&rt, rt.alloc(), &tokens, line)?;
+    }
+    Ok(())
+}
+
+/// `mov r0.x, l(7)`, and the same to r1, each with `ret` behind it.
+const MOVE: [u32; 6] = [0x05000036, 0x00100012, 0, 0x00004001, 7, 0x0100003E];
+
+const MOVE_TO_R1: [u32; 6] = [0x05000036, 0x00100012, 1, 0x00004001, 7, 0x0100003E];
+
+const RET: [u32; 1] = [0x0100003E];
+
+/// A group of one lane, and one of 1,024 by 2.
+const GROUP: [u32; 4] = [0x0400009B, 1, 1, 1];
+
+const LARGE_GROUP: [u32; 4] = [0x0400009B, 1024, 2, 1];
+
+/// `dcl_uav_structured u0, 6`; `dcl_temps 1`, and the same behind `nop`.
+const ODD_STRIDE: [u32; 4] = [0x0400009E, 0x0011E000, 0, 6];
+
+const ONE_REGISTER: [u32; 2] = [0x02000068, 1];
+
+const NOP_AND_REGISTER: [u32; 3] = [0x0100003A, 0x02000068, 1];
+
+/// `dcl_resource_structured t0, 4`, `dcl_uav_raw u0` and `dcl_temps 1`; `ld_raw r0.xyzw, l(-4),
+/// t0.xyzw`, `store_raw u0.xyzw, l(0), r0.xyzw` and `ret`.
+const VIEWS: [u32; 9] = [
+    0x040000A2, 0x00107000, 0, 4, 0x0300009D, 0x0011E000, 0, 0x02000068, 1,
+];
+
+const LOAD_RAW: [u32; 15] = [
+    0x070000A5, 0x001000F2, 0, 0x00004001, 0xFFFFFFFC, 0x00107E46, 0, 0x070000A6, 0x0011E0F2, 0,
+    0x00004001, 0, 0x00100E46, 0, 0x0100003E,
+];
+
+/// `switch l(1)`, `case l(1)`, `break`, `case l(1)`, `break`, `endswitch` and `ret`.
+const CASES: [u32; 13] = [
+    0x0300004C, 0x00004001, 1, 0x03000006, 0x00004001, 1, 0x01000002, 0x03000006, 0x00004001, 1,
+    0x01000002, 0x01000017, 0x0100003E,
+];
+
+/// Programs of so many words, in three parts behind their head, and the first broken rule: on
+/// declarations, on what is used, or on structure.
+#[test]
+fn program_rules(rt: HostRuntime) -> Result<(), Fail> {
+    let alloc = rt.alloc();
+    let rows: [(u32, [&[u32]; 3], &str); 10] = [
+        (3, [&[], &[], &RET], "L4 at 3: thread group missing"),
+        (12, [&[], &GROUP, &MOVE], "L5 at 6: used but not declared"),
+        (
+            14,
+            [&ONE_REGISTER, &GROUP, &MOVE_TO_R1],
+            "L6 at 8: register past its declaration",
+        ),
+        (11, [&GROUP, &GROUP, &RET], "L1 at 6: declared twice"),
+        (
+            7,
+            [&[], &LARGE_GROUP, &RET],
+            "L3 at 2: declaration past a limit",
+        ),
+        (7, [&[], &ODD_STRIDE, &RET], "L7 at 2: wrong stride or size"),
+        (
+            10,
+            [&GROUP, &NOP_AND_REGISTER, &RET],
+            "L2 at 7: declaration after an instruction",
+        ),
+        (
+            6,
+            [&GROUP, &[], &[]],
+            "S9 at 6: last instruction is not ret",
+        ),
+        (
+            30,
+            [&VIEWS, &GROUP, &LOAD_RAW],
+            "L8 at 15: wrong kind of view",
+        ),
+        (
+            19,
+            [&GROUP, &[], &CASES],
+            "S7 at 13: case value given twice",
+        ),
+    ];
+    for (words, parts, rule) in &rows {
+        let mut tokens = Vec::from_slice(alloc, &[0x00050050, *words])?;
+        for part in parts {
+            tokens.extend_from_slice(part)?;
+        }
+        let line = format!(in alloc; "vkd3d-compiler: {rule}\n")?;
+        refuses(&rt, alloc, &tokens, line.as_str())?;
+    }
+    Ok(())
+}
+
+/// `dcl_input vThreadIDInGroupFlattened`, a group, so many times `if_nz vThreadIDInGroupFlattened`,
+/// their ends and `ret`: 65 of them, and 64, of which no rule is broken.
+#[test]
+fn deep_nesting(rt: HostRuntime) -> Result<(), Fail> {
+    let alloc = rt.alloc();
+    let rows: [(u32, u32, &str); 2] = [
+        (204, 65, "vkd3d-compiler: M3 at 136: nesting too deep\n"),
+        (201, 64, U1),
+    ];
+    for (words, depth, line) in &rows {
+        let mut tokens = Vec::new(alloc);
+        tokens.extend_from_slice(&[0x00050050, *words, 0x0200005F, 0x00024000])?;
+        tokens.extend_from_slice(&GROUP)?;
+        for _ in 0..*depth {
+            tokens.extend_from_slice(&[0x0204001F, 0x0002400A])?;
+        }
+        for _ in 0..*depth {
+            tokens.push(0x01000015)?;
+        }
+        tokens.push(0x0100003E)?;
+        refuses(&rt, alloc, &tokens, line)?;
     }
     Ok(())
 }
