@@ -119,3 +119,6 @@ value_itself nodes v t s = record { sorted = s.sorted; term = refl; same = ap li
 
 pub keep_node : (nodes : List Node) (v : Value) (id n : ℕ) → v ≡ value.Node id → IsValue nodes v → keep n (term_of nodes v) ≡ Set n (term_at nodes id)
 keep_node nodes v id n e h = ap (λ o. keep_by o n (term_of nodes v)) h.same ∙ ap (λ x. keep_by (known x) n (term_of nodes x)) e
+
+pub grows_same : (a b : Grown) (m n : ℕ) → Grows a b m → n ≡ m → Grows a b n
+grows_same a b m n g e = record { extends = g.extends; few = omega (arith, g.few, e); capacity = g.capacity; root = g.root }

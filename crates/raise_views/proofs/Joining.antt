@@ -1,12 +1,24 @@
 -- Components that stand under one guard, and four components one after the other.
 use Rattle.std.proofs.Common.{◌≡◌, ℕ, Bool, true, false, List, [], ◌∷◌, ◌++◌, map, Option, Some, None, refl, sym, ap, ◌∙◌}
-use Rattle.std.specs.Prelude.{not, if◌then◌else◌, ◌&&◌, ◌||◌, is_some, filter}
+use Rattle.std.specs.Prelude.{◌+◌, ◌*◌, not, if◌then◌else◌, ◌&&◌, ◌||◌, is_some, filter}
 use Rattle.tpf_decode.specs.declared.argument.Argument.{Argument}
 use Rattle.tpf_decode.specs.declared.argument.Kind.{Kind}
 use Rattle.tpf_decode.specs.declared.argument.Kind.TheVariants as kind
 use Rattle.tpf_decode.specs.declared.argument.Select.{Select}
 use Rattle.tpf_program.specs.Writes.{in_mask, masked, written, written_by}
-use Rattle.shader_tree.specs.Terms.{Term, Guard, Nothing}
+use Rattle.shader_tree.specs.Terms.{Term, Atomic, Guard, Nothing}
+use Rattle.shader_tree.specs.Values.{Spaces}
+use Rattle.word_base.specs.declared.event.Act.{Act}
+use Rattle.word_base.specs.declared.event.Room.{Room}
+use Rattle.tpf_decode.specs.declared.meaning.Meaning.{Meaning}
+use Rattle.raise_operands.specs.declared.operand.Operands.{Operands}
+use Rattle.raise_operands.specs.Building.{known_target}
+use Rattle.raise_operands.specs.Laws.{writes_nodes}
+use Rattle.raise_operands.specs.Raising.{source, target, write_by}
+use Rattle.raise_views.specs.declared.writing.Given.{Given}
+use Rattle.raise_views.specs.Counting.{results_nodes}
+use Rattle.raise_views.specs.Giving.{given_nodes}
+use Rattle.raise_views.specs.Guarding.{has_result}
 use Rattle.raise_operands.specs.Building.{is_written, is_written_by}
 use Rattle.raise_operands.specs.Raising.{chained_from, followed}
 use Rattle.raise_views.specs.declared.address.Reach.{Reach}
@@ -14,7 +26,7 @@ use Rattle.raise_views.specs.declared.address.Way.{Way}
 use Rattle.raise_views.specs.declared.address.Way.TheVariants.{Structures}
 use Rattle.raise_views.specs.Giving.{are_all, at_terms, four_taken, inside, is_any, taken}
 use Rattle.raise_views.specs.Making.{four_of, next_if}
-use Rattle.raise_views.specs.Reaching.{address_of, keeps, are_inside, are_joined, index_of, index_test, is_index_known, load_of, load_part, loads, stand_together, store_of, store_part, stores, together, words_of, zero_of}
+use Rattle.raise_views.specs.Reaching.{atomic_part, address_of, keeps, are_inside, are_joined, index_of, index_test, is_index_known, load_of, load_part, loads, stand_together, store_of, store_part, stores, together, words_of, zero_of}
 
 inside_taken : (n v : ℕ) (o : Option ℕ) (cs : List ℕ) → are_inside n v (taken o cs) ≡ (inside n v o && are_inside n v cs)
 inside_taken n v None cs = refl
@@ -189,3 +201,34 @@ kept_same s t w a b x y e h k = rw (e, h, k) refl
 
 pub address_same : (w : Way) (a b x y : Term) → a ≡ b → x ≡ y → address_of (at_terms w a x) ≡ address_of (at_terms w b y)
 address_same w a b x y h k = rw (h, k) refl
+
+-- THE WORDS of a destination
+pub results_are : (b : Bool) (a : Argument) (f : ℕ → Term) (s : Term) → b ≡ true
+    → four_of (is_written a) f s ≡ chained_from s (map f (if b then written a else []))
+results_are b a f s e =
+    sym (ap (λ q. chained_from s (map f (if q then written a else []))) e ∙ (ap (λ cs. chained_from s (map f cs)) (written_four a) ∙ chained_four
+    (is_written a) f s))
+
+pub results_count : (m : Meaning) (given : Given) (os : Operands) → has_result m ≡ true
+    → results_nodes m given os ≡ 4 * (given_nodes given + 1) + writes_nodes (known_target os.o0)
+results_count m given os e = ap (λ b. if b then 4 * (given_nodes given + 1) + writes_nodes (known_target os.o0) else 0) e
+
+pub same_writes : (g : Spaces) (a b : Argument) (k n : ℕ) (f : ℕ → Term) (s : Term) → n ≡ k → a ≡ b
+    → four_of (is_written a) (λ c. write_by (target g a) g n c (f c)) s ≡ four_of (is_written b) (λ c. write_by (target g b) g k c (f c)) s
+same_writes g a b k n f s e h =
+    ap (λ q. four_of (is_written q) (λ c. write_by (target g q) g n c (f c)) s) h ∙ ap
+    (λ q. four_of (is_written b) (λ c. write_by (target g b) g q c (f c)) s) e
+
+pub atomic_same : (n : ℕ) (r : Room) (kind : Act) (w v a b x y : Term) → w ≡ v → a ≡ b → x ≡ y → Atomic n r w kind a x ≡ Atomic n r v kind b y
+atomic_same n r kind w v a b x y e h k = rw (e, h, k) refl
+
+pub part_same : (r : Reach) (kind : Act) (answers : Bool) (a b x y : Term) → a ≡ b → x ≡ y → atomic_part r kind a x answers ≡ atomic_part r kind b y
+    answers
+part_same r kind answers a b x y h k = ap (λ q. atomic_part r kind q x answers) h ∙ ap (λ q. atomic_part r kind b q answers) k
+
+pub stores_same : (s : Term) (r : Reach) (g : Spaces) (a b x y : Argument) (n k : ℕ) → a ≡ b → n ≡ k → x ≡ y
+    → chained_from s (stores r (masked a.select) (source g n x)) ≡ chained_from s (stores r (masked b.select) (source g k y))
+stores_same s r g a b x y n k e h l =
+    ap (λ q. chained_from s (stores r (masked q.select) (source g n x))) e
+    ∙ (ap (λ q. chained_from s (stores r (masked b.select) (source g q x))) h ∙ ap (λ q. chained_from s (stores r (masked b.select) (source g k q)))
+    l)

@@ -192,5 +192,6 @@ abbrev pub store_of : Reach → (ℕ → Term) → ℕ → Term
 store_of r value c = Store r.room (place r c) (value c)
 
 abbrev pub stores : Reach → List ℕ → (ℕ → Term) → List Term
-stores r cs value = if stand_together r cs then together r (map (store_of r value) cs) ∷ [] else map
-    (λ c. store_part r c (value c)) cs
+stores r cs value =
+    if stand_together r cs then together r (map (store_of r value) cs) ∷ []
+    else map (λ c. store_part r c (value c)) cs

@@ -8,6 +8,7 @@
 
 mod address;
 mod chains;
+mod events;
 mod joins;
 mod keeping;
 mod kinds;
