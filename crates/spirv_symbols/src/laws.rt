@@ -34,7 +34,7 @@ ghost use Rattle.spirv_symbols.specs.Tables.{Table, Entry, Has, AreThere, Stands
 /// What holds of the ids of every table, for the proofs of callers: a symbol has one id and an id one
 /// symbol, they are above 0 and below the first free one, and what a symbol needs has lower ones. It does
 /// nothing when it runs.
-#[tactic(auto, using(crate::proofs::Ids::one_of, crate::proofs::Ids::symbol_of, crate::proofs::Ids::id_found, crate::proofs::Ids::bounds, crate::proofs::Ids::needs_there, crate::proofs::Ids::number, crate::proofs::Ids::none,))]
+#[tactic(auto, using(crate::proofs::Ids::one_of, crate::proofs::Ids::symbol_of, crate::proofs::Ids::id_found, crate::proofs::Ids::bounds, crate::proofs::Ids::needs_there, crate::proofs::Ids::number, crate::proofs::Ids::none))]
 pub fn id_laws()
     ensures single { (c : Context) (t : Table) (s : Symbol) (x y : ℕ) → Stands c t → Has t.entries s x
         → Has t.entries s y → x ≡ y }
@@ -52,7 +52,7 @@ pub fn id_laws()
 
 /// What holds of tables that grow, for the proofs of callers: symbols keep their ids, and further ones have
 /// new ids. It does nothing when it runs.
-#[tactic(auto, using(crate::proofs::Growing::has_on, crate::proofs::Ids::later, crate::proofs::Needs::extends_on, crate::proofs::Growing::stays, crate::proofs::Ids::taken,))]
+#[tactic(auto, using(crate::proofs::Growing::has_on, crate::proofs::Ids::later, crate::proofs::Needs::extends_on, crate::proofs::Growing::stays, crate::proofs::Ids::taken))]
 pub fn growth_laws()
     ensures kept { (old new : Table) (s : Symbol) (x : ℕ) → Extends old new → Has old.entries s x
         → Has new.entries s x }
@@ -66,7 +66,7 @@ pub fn growth_laws()
 /// What holds of the code of a module, for the proofs of callers: it defines the ids of symbols by their
 /// instructions, its types have their sorts, its values their types, its blocks and arrays their layouts.
 /// It does nothing when it runs.
-#[tactic(auto, using(crate::proofs::StartsWhole::defines, crate::proofs::ModuleFacts::sorts, crate::proofs::ModuleFacts::types, crate::proofs::ModuleFacts::imports, crate::proofs::ModuleFacts::strides, crate::proofs::ModuleFacts::offsets,))]
+#[tactic(auto, using(crate::proofs::StartsWhole::defines, crate::proofs::ModuleFacts::sorts, crate::proofs::ModuleFacts::types, crate::proofs::ModuleFacts::imports, crate::proofs::ModuleFacts::strides, crate::proofs::ModuleFacts::offsets))]
 pub fn module_laws()
     ensures defines { (c : Context) (kind : Kind) (t : Table) (cs : List Numbered) (body : List Instr)
         → IsReady c t cs → IsBody body → Defines c t.entries (module_code c kind t.entries cs body) }
@@ -100,7 +100,7 @@ pub fn start_laws()
 
 /// What holds of the form of a module, for the proofs of callers: its sections, definitions, types, sorts,
 /// variables and interface, where its body does its part. It does nothing when it runs.
-#[tactic(auto, using(crate::proofs::FormSections::sections_hold, crate::proofs::FormWhole::single_holds, crate::proofs::FormTypes::types_hold, crate::proofs::FormAll::sorts_hold, crate::proofs::FormLocals::variables_hold, crate::proofs::Interfaces::interface_holds, crate::proofs::FormInstrs::instrs_hold,))]
+#[tactic(auto, using(crate::proofs::FormSections::sections_hold, crate::proofs::FormWhole::single_holds, crate::proofs::FormTypes::types_hold, crate::proofs::FormAll::sorts_hold, crate::proofs::FormLocals::variables_hold, crate::proofs::Interfaces::interface_holds, crate::proofs::FormInstrs::instrs_hold))]
 pub fn form_laws()
     ensures sections { (c : Context) (kind : Kind) (t : Table) (cs : List Numbered) (body : List Instr)
         → IsReady c t cs → IsBody body → IsTrue (has_sections kind.threads (module_code c kind t.entries cs body)) }
