@@ -1,9 +1,8 @@
 -- What the code of a node's own gives on words.
-use Rattle.std.proofs.Common.{◌≡◌, ℕ, ◌+◌, ◌*◌, ◌/◌, ◌%◌, ◌<◌, ◌≤◌, ◌^◌, List, [], ◌∷◌, Option, Some, None, refl, sym, ap, ◌∙◌, subst, arith}
-use Rattle.std.specs.Prelude.{Ok, Err, Bool, true, false, not, nat_lt, if◌then◌else◌, IsTrue}
+use Rattle.std.proofs.Common.{◌≡◌, ℕ, ◌+◌, ◌*◌, ◌/◌, ◌%◌, ◌<◌, ◌≤◌, ◌^◌, List, [], ◌∷◌, Some, refl, sym, ap, ◌∙◌, subst, arith}
+use Rattle.std.specs.Prelude.{Ok, Err, Bool, true, false, not, nat_lt, if◌then◌else◌}
 use Rattle.std.proofs.lemmas.Bool.Decides.{nat_tests}
 use Rattle.shader_tree.specs.declared.node.Comparison.{Comparison}
-use Rattle.shader_tree.specs.declared.node.Comparison.TheVariants as compared
 use Rattle.shader_tree.specs.declared.node.Expr.{Expr}
 use Rattle.shader_tree.specs.declared.node.Node.{Node}
 use Rattle.shader_tree.specs.declared.node.Node.TheVariants as node
@@ -17,7 +16,6 @@ use Rattle.kept_values.specs.declared.word.Word.TheVariants as kept
 use Rattle.shader_tree.specs.Values.{Words, IsWord, IsTruth, provided, compares, size_of, word_in}
 use Rattle.shader_tree.specs.Values as tree
 use Rattle.spirv_words.specs.Values.{Value, Word, Truth, Got}
-use Rattle.spirv_symbols.specs.declared.symbol.TypeSymbol.TheVariants as symbol
 use Rattle.spirv_emit.specs.Begun.{IsBegun, IsSpaceThere, Names}
 use Rattle.spirv_emit.specs.Emission.{Emission, spaces_of, words_left, ids_left}
 use Rattle.spirv_emit.specs.Expressions.{Did}
@@ -25,7 +23,7 @@ use Rattle.spirv_emit.specs.Joins.{given, always, joined, only}
 use Rattle.spirv_emit.specs.Lanes.{Site}
 use Rattle.spirv_emit.specs.Operations.{short, on_word, on_words, on_three, on_four, calc}
 use Rattle.spirv_emit.specs.Reads.{space_word, the_word}
-use Rattle.spirv_emit.specs.Values.{Slot, slot, a_word, a_truth, Meaning, Gives, as_value, got_of, valued}
+use Rattle.spirv_emit.specs.Values.{a_word, a_truth, Meaning, Gives, as_value, got_of, valued}
 use Rattle.spirv_emit.proofs.Giving.{then', only_gives, weaker}
 use Rattle.spirv_emit.proofs.Groups.{start}
 use Rattle.spirv_emit.proofs.Values.{by_two}

@@ -1,6 +1,6 @@
 -- Words of constant buffers, and lengths.
-use Rattle.std.proofs.Common.{◌≡◌, ℕ, zero, suc, ◌+◌, ◌*◌, ◌/◌, ◌%◌, ◌^◌, ◌<◌, ◌≤◌, inl, inr, List, [], ◌∷◌, drop, Option, Some, None, refl, sym, ap, ◌∙◌, subst, arith}
-use Rattle.std.specs.Prelude.{◌≢◌, Ok, Err, nat_eq, nat_lt, ◌&&◌, Bool, true, false, if◌then◌else◌, slice_get, slice_index, IsTrue, length}
+use Rattle.std.proofs.Common.{◌≡◌, ℕ, zero, suc, ◌+◌, ◌*◌, ◌/◌, ◌%◌, ◌^◌, ◌<◌, ◌≤◌, List, [], ◌∷◌, drop, Option, Some, None, refl, sym, ap, ◌∙◌, subst, arith}
+use Rattle.std.specs.Prelude.{◌≢◌, Ok, nat_eq, nat_lt, Bool, true, false, if◌then◌else◌, slice_get, slice_index}
 use Rattle.std.proofs.lemmas.Bool.Decides.{nat_tests}
 use Rattle.word_base.specs.declared.event.Room.{Room}
 use Rattle.word_base.specs.declared.event.Room.TheVariants as room
@@ -8,8 +8,8 @@ use Rattle.binding_map.specs.declared.register.Place.TheVariants.{Push as InPush
 use Rattle.shader_tree.specs.declared.node.Space.TheVariants as space
 use Rattle.shader_tree.specs.Values.{Words, size_of}
 use Rattle.spirv_words.specs.StorageClass as storage
-use Rattle.spirv_words.specs.Text.{Instr, instr}
-use Rattle.spirv_words.specs.Values.{Value, Word, Truth, AtConstants, AtPush, AtRoom, Got, and_then, word_of}
+use Rattle.spirv_words.specs.Text.{instr}
+use Rattle.spirv_words.specs.Values.{Value, Word, AtConstants, AtPush, AtRoom, Got, word_of}
 use Rattle.spirv_words.specs.Globals.{push_word}
 use Rattle.spirv_symbols.specs.declared.symbol.Access.TheVariants.{ReadOnly}
 use Rattle.spirv_symbols.specs.declared.symbol.Symbol.TheVariants.{AType, Constant, Memory, Push, Uniform}
@@ -22,15 +22,14 @@ use Rattle.spirv_emit.specs.declared.buffer.ConstantBuffer.{ConstantBuffer}
 use Rattle.spirv_symbols.specs.declared.entry.Entry.{Entry}
 use Rattle.spirv_emit.specs.Begun.{IsBegun, IsThere, IsBufferThere, place_symbol}
 use Rattle.spirv_emit.specs.Emission.{Emission, Frame, spaces_of, buffer_of, vectors_in}
-use Rattle.spirv_emit.specs.Growing.{Completes}
 use Rattle.spirv_emit.specs.Joins.{given, always, joined, only}
 use Rattle.spirv_emit.specs.Lanes.{Site}
 use Rattle.spirv_emit.specs.Operations.{calc, choosing}
 use Rattle.spirv_emit.specs.Reads.{inside, points_inside, points_in_vector, given_word, space_word, extent_of, IsView}
 use Rattle.spirv_emit.specs.Steps.{Adds}
-use Rattle.spirv_emit.specs.Values.{Slot, slot, a_word, a_truth, Meaning, Gives}
+use Rattle.spirv_emit.specs.Values.{slot, a_word, a_truth, Meaning, Gives}
 use Rattle.spirv_emit.proofs.Chains.{vectors_chain, push_chain}
-use Rattle.spirv_emit.proofs.Giving.{and_then_ok, ok_same, then', only_gives, weaker}
+use Rattle.spirv_emit.proofs.Giving.{and_then_ok, then', only_gives, weaker}
 use Rattle.spirv_emit.proofs.Groups.{start, fixed, constant, with_constant}
 use Rattle.spirv_emit.proofs.Loads.{chain_inside_gives, chain_vector_gives, given_gives, length_gives}
 use Rattle.spirv_emit.proofs.Sources.{inside_ok}

@@ -1,11 +1,10 @@
 -- Where access chains lead, by the types of variables.
-use Rattle.std.proofs.Common.{◌≡◌, ℕ, ◌+◌, ◌-◌, ◌*◌, ◌/◌, ◌<◌, List, [], ◌∷◌, Some, None, refl, sym, ap, ◌∙◌, subst, arith}
-use Rattle.std.specs.Prelude.{Ok, Err, nat_lt, true}
+use Rattle.std.proofs.Common.{◌≡◌, ℕ, ◌+◌, ◌-◌, ◌*◌, ◌/◌, [], ◌∷◌, refl, arith}
+use Rattle.std.specs.Prelude.{Ok, nat_lt, true}
 use Rattle.word_base.specs.declared.event.Room.{Room}
 use Rattle.spirv_words.specs.StorageClass as storage
-use Rattle.spirv_words.specs.Text.{Instr}
-use Rattle.spirv_words.specs.Sorts.{Pointer, sort_of_value}
-use Rattle.spirv_words.specs.Values.{Value, AtLocal, AtRoom, AtConstants, AtPush, AtInput}
+use Rattle.spirv_words.specs.Sorts.{sort_of_value}
+use Rattle.spirv_words.specs.Values.{AtLocal, AtRoom, AtConstants, AtPush, AtInput}
 use Rattle.spirv_words.specs.Globals.{Machine}
 use Rattle.spirv_words.specs.Memory.{chained}
 use Rattle.spirv_emit.specs.Lanes.{IsArray, IsPushBlock, IsView, IsVectors, IsTriple}

@@ -1,48 +1,35 @@
 -- What the code of statements does: words that wait, and events.
-use Rattle.std.proofs.Common.{◌≡◌, ℕ, ◌+◌, ◌<◌, List, [], ◌∷◌, Option, Some, None, refl, sym, ap, ◌∙◌, subst, arith, Bool, true, false}
-use Rattle.std.specs.Prelude.{slice_get, nat_lt, Ok, Err, IsTrue}
+use Rattle.std.proofs.Common.{◌≡◌, ℕ, ◌+◌, ◌<◌, [], ◌∷◌, Some, refl, sym, ap, ◌∙◌, subst, true}
+use Rattle.std.specs.Prelude.{slice_get, nat_lt, Ok, IsTrue}
 use Rattle.std.proofs.lemmas.Bool.{lt-ltb}
 use Rattle.word_base.specs.Lanes.{Asks}
-use Rattle.word_base.specs.declared.event.Act.{Act}
-use Rattle.word_base.specs.declared.event.Act.TheVariants as act
-use Rattle.word_base.specs.declared.event.Classes.{Classes}
-use Rattle.word_base.specs.declared.event.Event.{Event}
 use Rattle.word_base.specs.declared.event.Event.TheVariants as event
 use Rattle.word_base.specs.declared.event.Room.{Room}
 use Rattle.word_base.specs.declared.event.Room.TheVariants as room
-use Rattle.word_base.specs.declared.event.Scope.{Scope}
-use Rattle.word_base.specs.declared.event.Scope.TheVariants as scope
 use Rattle.kept_values.specs.declared.word.Word.TheVariants as kept
 use Rattle.kept_values.specs.Tables.{dirty_in}
 use Rattle.shader_tree.specs.Terms.{Term}
-use Rattle.shader_tree.specs.Values.{Words}
-use Rattle.shader_tree.specs.Lane.{with_scratch, second_operand}
-use Rattle.spirv_words.specs.StorageClass as storage
-use Rattle.spirv_words.specs.Text.{Instr, instr}
+use Rattle.spirv_words.specs.Text.{instr}
 use Rattle.spirv_words.specs.Sorts.{Words as AreWords, sort_of}
-use Rattle.spirv_words.specs.Values.{Value, Word, AtRoom}
+use Rattle.spirv_words.specs.Values.{Word, AtRoom}
 use Rattle.spirv_words.specs.Memory.{takes_stores}
-use Rattle.spirv_words.specs.Globals.{Machine}
 use Rattle.spirv_words.specs.Lane.{State, step, with_value, goes_to}
 use Rattle.spirv_symbols.specs.declared.symbol.Symbol.TheVariants as symbols
 use Rattle.spirv_symbols.specs.declared.symbol.TypeSymbol.TheVariants as symbol
 use Rattle.spirv_symbols.specs.Tables.{Has}
-use Rattle.spirv_emit.specs.Emission.{Emission, next_of, spaces_of}
-use Rattle.spirv_emit.specs.Begun.{IsBegun}
-use Rattle.spirv_emit.specs.Blocks.{Alters, Meets, IsValue, Sets, Loads, Stores, Atomics, Syncs}
-use Rattle.spirv_emit.specs.Joins.{given, always, joined, only}
+use Rattle.spirv_emit.specs.Emission.{Emission}
+use Rattle.spirv_emit.specs.Blocks.{Alters, Meets, Sets, Loads, Stores}
+use Rattle.spirv_emit.specs.Joins.{joined, only}
 use Rattle.spirv_words.specs.StorageClass.{has_events}
 use Rattle.spirv_emit.specs.Code.{is_loaded, is_stored}
 use Rattle.spirv_emit.specs.Lanes.{Site, IsWhole}
-use Rattle.spirv_emit.specs.Growing.{Completes}
-use Rattle.spirv_emit.specs.Rooms.{class_of, room_word, number_of_act, number_of_scope, semantics_of, semantics_by}
-use Rattle.spirv_emit.specs.Steps.{Adds, Acts, IsPut, Named}
-use Rattle.spirv_emit.specs.Values.{Slot, slot, a_word, Gives, valued}
+use Rattle.spirv_emit.specs.Rooms.{class_of, room_word}
+use Rattle.spirv_emit.specs.Steps.{Adds, Acts, IsPut}
+use Rattle.spirv_emit.specs.Values.{slot, a_word, Gives, valued}
 use Rattle.spirv_emit.proofs.Forms.{acts}
-use Rattle.spirv_emit.proofs.Giving.{then', only_gives, named_gives}
+use Rattle.spirv_emit.proofs.Giving.{then', only_gives}
 use Rattle.spirv_emit.proofs.Memory.{PutsWell, sets_well}
-use Rattle.spirv_emit.proofs.Room.{has_below}
-use Rattle.spirv_emit.proofs.Stores.{there_named, event_meets, answer_meets, put_alters}
+use Rattle.spirv_emit.proofs.Stores.{event_meets, answer_meets, put_alters}
 
 -- A SCRATCH WORD is set.
 pub set_alters : (a b c : Emission) (n r : ℕ) (x : Term) → Gives a b [] (a_word r ∷ []) (valued x) → IsPut b c (kept.Scratch n) r

@@ -16,7 +16,7 @@ use Rattle.spirv_symbols.specs.declared.entry.Entry.{Entry}
 use Rattle.spirv_symbols.specs.Tables.{Has}
 use Rattle.spirv_emit.specs.Emission.{Emission, Frame, next_of}
 use Rattle.spirv_emit.specs.Code.{In, Typed, typed, typed_result, IsPlain, ArePlain, known_by, known_behind, behind, IsOf, IsTyped, Covers, CoversKept, type_of_symbol}
-use Rattle.spirv_emit.specs.Lanes.{Site, IsWhole, Mirrors, meaning, Stands}
+use Rattle.spirv_emit.specs.Lanes.{Site, Mirrors, meaning, Stands}
 use Rattle.spirv_emit.specs.Growing.{Grows, Completes}
 use Rattle.spirv_emit.specs.Values.{Slot, slot, AreValues, AreBelow, AreKnown, Runs, Reaches, Knowing, Meaning, Gives}
 use Rattle.spirv_emit.specs.Joins.{at_place, with_item, picked, given, always, joined, only}

@@ -1,9 +1,9 @@
 -- Short sequences of instructions.
-use Rattle.std.proofs.Common.{◌≡◌, ℕ, ◌+◌, ◌%◌, ◌^◌, ◌<◌, ◌≤◌, List, [], ◌∷◌, ◌++◌, Some, refl, sym, ap, ◌∙◌, subst, arith, append-nil}
-use Rattle.std.specs.Prelude.{Ok, Err, nat_eq, nat_lt, Bool, true, false, if◌then◌else◌}
-use Rattle.word_base.specs.Alu.{all_ones, difference, truth_word}
+use Rattle.std.proofs.Common.{◌≡◌, ℕ, ◌%◌, List, [], ◌∷◌, Some, refl, ap, ◌∙◌, arith}
+use Rattle.std.specs.Prelude.{Ok, nat_eq, if◌then◌else◌}
+use Rattle.word_base.specs.Alu.{all_ones}
 use Rattle.spirv_words.specs.Operations.{op_of}
-use Rattle.spirv_words.specs.Values.{Value, Word, Truth, Got, both, and_then, word_of, truth_of}
+use Rattle.spirv_words.specs.Values.{Value, Word, both, word_of, truth_of}
 use Rattle.shader_tree.specs.Values.{Words}
 use Rattle.spirv_symbols.specs.declared.symbol.Symbol.{Symbol}
 use Rattle.spirv_symbols.specs.declared.symbol.Symbol.TheVariants.{Constant}
@@ -12,14 +12,13 @@ use Rattle.spirv_symbols.specs.declared.symbol.TypeSymbol.TheVariants as symbol
 use Rattle.spirv_symbols.specs.Tables.{Has}
 use Rattle.spirv_emit.specs.Begun.{IsBegun}
 use Rattle.spirv_emit.specs.Code.{type_of_symbol}
-use Rattle.spirv_emit.specs.Emission.{Emission, next_of}
+use Rattle.spirv_emit.specs.Emission.{Emission}
 use Rattle.spirv_emit.specs.Growing.{Same, Grows}
-use Rattle.spirv_emit.specs.Joins.{picked, given, always, joined, only}
+use Rattle.spirv_emit.specs.Joins.{given, always, joined, only}
 use Rattle.spirv_emit.specs.Lanes.{Site, meaning}
-use Rattle.spirv_emit.specs.Operations.{computed_by, one_value, calc, chosen, choosing, found, finding, part, taking, on_cut, as_word, second_where, second_unless, from_above, on_field, divided, part_of, sum_of_product, second_of_nonzero}
-use Rattle.spirv_emit.specs.Steps.{Named}
+use Rattle.spirv_emit.specs.Operations.{computed_by, calc, chosen, choosing, found, finding, part, taking, on_cut, as_word, second_where, second_unless, from_above, on_field, divided, part_of, sum_of_product, second_of_nonzero}
 use Rattle.spirv_emit.specs.Values.{Slot, slot, a_word, a_truth, a_pair, Meaning, Gives}
-use Rattle.spirv_emit.proofs.Giving.{and_then_ok, ok_same, nothing_gives, then', only_gives, weaker, named_gives}
+use Rattle.spirv_emit.proofs.Giving.{and_then_ok, nothing_gives, then', only_gives, weaker, named_gives}
 use Rattle.spirv_emit.proofs.Growth.{grows_same}
 use Rattle.spirv_emit.proofs.Room.{has_below}
 use Rattle.spirv_emit.proofs.Values.{word_is, truth_is, both_ok, cut}

@@ -1,28 +1,26 @@
 -- Words that are kept as ids.
-use Rattle.std.proofs.Common.{◌≡◌, ℕ, ◌+◌, ◌<◌, ⊎_elim, inl, inr, List, [], ◌∷◌, ◌++◌, Some, None, refl, sym, ap, ◌∙◌, subst, arith, append-nil}
-use Rattle.std.specs.Prelude.{Ok, nat_eq, Bool, true, false, ◌≢◌, ◌⊎◌}
+use Rattle.std.proofs.Common.{◌≡◌, ℕ, ⊎_elim, inl, inr, [], ◌∷◌, ◌++◌, Some, refl, sym, ap, ◌∙◌, subst, arith, append-nil}
+use Rattle.std.specs.Prelude.{nat_eq, Bool, true, false, ◌≢◌, ◌⊎◌}
 use Rattle.std.proofs.lemmas.Bool.Decides.{nat_tests}
 use Rattle.kept_values.specs.declared.word.Word.{Word as Kept}
 use Rattle.kept_values.specs.declared.word.Word.TheVariants as kept
-use Rattle.kept_values.specs.Tables.{Table, id_in, dirty_in, Among, Keeps}
+use Rattle.kept_values.specs.Tables.{id_in, Among}
 use Rattle.shader_tree.specs.Values.{Words}
-use Rattle.spirv_words.specs.Text.{Instr}
 use Rattle.spirv_words.specs.Values.{Value}
 use Rattle.spirv_words.specs.Values as value
 use Rattle.spirv_words.specs.Lane.{State}
 use Rattle.spirv_symbols.specs.declared.symbol.TypeSymbol.TheVariants as type
-use Rattle.spirv_symbols.specs.Tables.{Has}
 use Rattle.spirv_emit.specs.Begun.{IsBegun}
-use Rattle.spirv_emit.specs.Code.{Typed, behind, CoversKept, IsOf}
+use Rattle.spirv_emit.specs.Code.{behind, IsOf}
 use Rattle.spirv_emit.specs.Emission.{Emission, Frame, next_of}
-use Rattle.spirv_emit.specs.Growing.{Grows, Completes}
+use Rattle.spirv_emit.specs.Growing.{Grows}
 use Rattle.spirv_emit.specs.Lanes.{Site, Mirrors, Holds, IsUsed, word_of}
 use Rattle.spirv_emit.specs.Reads.{the_word}
 use Rattle.spirv_emit.specs.Steps.{IsKept}
-use Rattle.spirv_emit.specs.Values.{Slot, a_word, AreValues, Gives, Reaches, Knowing}
+use Rattle.spirv_emit.specs.Values.{a_word, AreValues, Gives}
 use Rattle.spirv_emit.proofs.Giving.{ok_same}
 use Rattle.spirv_emit.proofs.Groups.{itself}
-use Rattle.spirv_emit.proofs.Growth.{settled_grows, grows_on, completes_back, runs_none, grows_same}
+use Rattle.spirv_emit.proofs.Growth.{settled_grows, grows_on, completes_back, runs_none}
 
 -- two words are the same or differ
 differ : (a b : ℕ) → (a ≡ b) ⊎ (a ≢ b)

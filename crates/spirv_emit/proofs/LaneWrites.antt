@@ -1,6 +1,6 @@
 -- What the code of writes to words of the lane does.
-use Rattle.std.proofs.Common.{◌≡◌, ℕ, ◌+◌, ◌*◌, ◌/◌, ◌%◌, ◌<◌, ◌≤◌, ◌⊎◌, ⊎_elim, inl, inr, List, [], ◌∷◌, ◌++◌, Option, Some, None, refl, sym, ap, ◌∙◌, subst, arith, Bool, true, false}
-use Rattle.std.specs.Prelude.{◌≢◌, slice_get, nat_lt, Ok, Err, IsTrue}
+use Rattle.std.proofs.Common.{◌≡◌, ℕ, ◌<◌, List, [], ◌∷◌, Option, Some, None, refl, sym, ap, ◌∙◌, subst, arith, true, false}
+use Rattle.std.specs.Prelude.{◌≢◌, nat_lt}
 use Rattle.std.proofs.lemmas.Bool.{lt-ltb}
 use Rattle.word_base.specs.Registers.{Registers}
 use Rattle.kept_values.specs.declared.word.Word.{Word as Kept}
@@ -12,12 +12,10 @@ use Rattle.shader_tree.specs.Lane.{with_word}
 use Rattle.shader_tree.specs.Terms.{Term}
 use Rattle.shader_tree.specs.Terms as term
 use Rattle.shader_tree.specs.Values.{Words, words, size_of}
-use Rattle.shader_tree.specs.Values as tree
 use Rattle.spirv_words.specs.StorageClass as storage
-use Rattle.spirv_words.specs.Text.{Instr, instr}
-use Rattle.spirv_words.specs.Values.{Value, Word, AtLocal}
-use Rattle.spirv_words.specs.Lane.{State, with_memory}
-use Rattle.spirv_words.specs.Memory.{with_at}
+use Rattle.spirv_words.specs.Text.{instr}
+use Rattle.spirv_words.specs.Values.{Word, AtLocal}
+use Rattle.spirv_words.specs.Lane.{with_memory}
 use Rattle.spirv_symbols.specs.declared.symbol.Symbol.{Symbol}
 use Rattle.spirv_symbols.specs.declared.symbol.Symbol.TheVariants as symbols
 use Rattle.spirv_symbols.specs.declared.symbol.TypeSymbol.TheVariants as symbol
@@ -26,11 +24,10 @@ use Rattle.spirv_symbols.specs.Tables.{Has}
 use Rattle.spirv_emit.specs.Begun.{IsBegun}
 use Rattle.spirv_emit.specs.Blocks.{Alters, IsValue, Writes}
 use Rattle.spirv_emit.specs.Code.{type_of_symbol}
-use Rattle.spirv_emit.specs.Emission.{Emission, Frame, next_of, spaces_of}
-use Rattle.spirv_emit.specs.Growing.{Completes}
-use Rattle.spirv_emit.specs.Joins.{given, always, joined, only}
-use Rattle.spirv_emit.specs.Lanes.{Site, IsWhole, Mirrors, IsUsed, Holds, IsClean, IsArray, word_of, meaning}
-use Rattle.spirv_emit.specs.Steps.{Named, Adds, Acts, Settled, IsPut, IsDropped, StoresTo}
+use Rattle.spirv_emit.specs.Emission.{Emission, Frame, spaces_of}
+use Rattle.spirv_emit.specs.Joins.{always, joined, only}
+use Rattle.spirv_emit.specs.Lanes.{Site, IsWhole, Mirrors, IsUsed, Holds, IsArray, meaning}
+use Rattle.spirv_emit.specs.Steps.{Adds, Acts, IsPut, IsDropped, StoresTo}
 use Rattle.spirv_emit.specs.Reads.{written_array}
 use Rattle.spirv_emit.specs.Values.{Slot, slot, a_word, Meaning, Gives, valued}
 use Rattle.spirv_emit.proofs.Giving.{then', only_gives, named_gives}

@@ -1,7 +1,9 @@
 mod Changing
 mod Arms
 mod RoomChains
+mod Declared
 mod Fences
+mod Finishing
 mod Buffers
 mod Chains
 mod Fields
@@ -12,6 +14,8 @@ mod Growth
 mod Kept
 mod Lists
 mod Memory
+mod Named
+mod Opening
 mod Operators
 mod Operands
 mod Parts

@@ -1,37 +1,30 @@
 -- Access chains and loads as instructions.
-use Rattle.std.proofs.Common.{◌≡◌, ℕ, ◌+◌, ◌*◌, ◌<◌, ◌≤◌, inl, inr, List, [], ◌∷◌, Option, Some, None, refl, sym, ap, ◌∙◌, subst, arith}
-use Rattle.std.specs.Prelude.{Ok, Err, nat_lt, nat_eq, ◌&&◌, ◌||◌, true, false, Bool, if◌then◌else◌, slice_get, slice_index, IsTrue}
-use Rattle.std.proofs.lemmas.Bool.Decides.{nat_tests}
+use Rattle.std.proofs.Common.{◌≡◌, ℕ, ◌+◌, ◌*◌, List, [], ◌∷◌, Some, refl, sym, ap, ◌∙◌, subst}
+use Rattle.std.specs.Prelude.{Ok, nat_lt, ◌&&◌, ◌||◌, true, false, Bool, slice_get, IsTrue}
 use Rattle.word_base.specs.declared.event.Room.{Room}
-use Rattle.kept_values.specs.declared.word.Word.{Word as Kept}
-use Rattle.kept_values.specs.Tables.{dirty_in}
-use Rattle.shader_tree.specs.declared.node.Space.{Space}
 use Rattle.shader_tree.specs.Values.{Words}
-use Rattle.shader_tree.specs.Values as tree
 use Rattle.spirv_words.specs.StorageClass as storage
 use Rattle.spirv_words.specs.StorageClass.{has_events, is_own, is_given}
-use Rattle.spirv_words.specs.Operations.{OpAccessChain, OpLoad, OpArrayLength}
+use Rattle.spirv_words.specs.Operations.{OpLoad, OpArrayLength}
 use Rattle.spirv_words.specs.Sorts.{sort_of, sort_of_value}
 use Rattle.spirv_words.specs.Sorts as sort
-use Rattle.spirv_words.specs.Text.{Instr, instr}
-use Rattle.spirv_words.specs.Values.{Value, Word, Truth, NoParts, Part, AtLocal, AtRoom, AtConstants, AtPush, AtInput, Got, both, and_then, or_rule, word_of, words_of_all}
-use Rattle.spirv_words.specs.Globals.{Machine}
+use Rattle.spirv_words.specs.Text.{instr}
+use Rattle.spirv_words.specs.Values.{Value, Word, Truth, NoParts, Part, AtLocal, AtRoom, AtConstants, AtPush, AtInput, both, word_of}
 use Rattle.spirv_words.specs.Memory.{chained, pointer_of}
-use Rattle.spirv_words.specs.Lane.{State, step, sets, gives, act}
+use Rattle.spirv_words.specs.Lane.{State, step, sets, act}
 use Rattle.spirv_symbols.specs.declared.symbol.Access.{Access}
 use Rattle.spirv_symbols.specs.declared.symbol.Symbol.{Symbol}
 use Rattle.spirv_symbols.specs.declared.symbol.Symbol.TheVariants.{AType, Constant, Memory}
 use Rattle.spirv_symbols.specs.declared.symbol.TypeSymbol.{TypeSymbol}
 use Rattle.spirv_symbols.specs.declared.symbol.TypeSymbol.TheVariants as type
 use Rattle.spirv_symbols.specs.Tables.{Has}
-use Rattle.spirv_emit.specs.Code.{Typed, IsOf, AreOf, Leads, is_loaded}
-use Rattle.spirv_emit.specs.Emission.{Emission, Frame}
+use Rattle.spirv_emit.specs.Code.{Typed, IsOf, Leads, is_loaded}
+use Rattle.spirv_emit.specs.Emission.{Emission}
 use Rattle.spirv_emit.specs.Growing.{Completes}
-use Rattle.spirv_emit.specs.Lanes.{Site, IsWhole, Mirrors, meaning, IsArray, IsPushBlock, IsView, IsVectors, IsTriple, HasSort}
+use Rattle.spirv_emit.specs.Lanes.{Site, IsWhole, Mirrors, meaning}
 use Rattle.spirv_emit.specs.Reads.{inside, within, points, points_inside, within_vector, points_in_vector, given_at, given_word, extent_of}
 use Rattle.spirv_emit.specs.Steps.{Adds}
-use Rattle.spirv_emit.specs.Values.{Slot, slot, a_word, AreValues, AreKnown, Meaning, Gives}
-use Rattle.spirv_emit.proofs.Chains.{local_chain, shared_chain, triple_chain, push_chain, vectors_chain, view_chain}
+use Rattle.spirv_emit.specs.Values.{slot, a_word, AreValues, Meaning, Gives}
 use Rattle.spirv_emit.proofs.Forms.{acts}
 use Rattle.spirv_emit.proofs.Giving.{and_then_ok, ok_same, added_gives}
 use Rattle.spirv_emit.proofs.Values.{word_is, both_ok}

@@ -1,6 +1,6 @@
 -- Memory and the words that are kept behind a store, and behind a word that waits.
-use Rattle.std.proofs.Common.{◌≡◌, ℕ, ◌+◌, ◌-◌, ◌*◌, ◌/◌, ◌%◌, ◌<◌, ◌⊎◌, ⊎_elim, inl, inr, List, [], ◌∷◌, Option, Some, None, refl, sym, ap, ◌∙◌, subst, arith, nat_eq, Bool, true, false, ◌&&◌, cond}
-use Rattle.std.specs.Prelude.{◌≢◌, slice_get, if◌then◌else◌}
+use Rattle.std.proofs.Common.{◌≡◌, ℕ, ◌+◌, ◌-◌, ◌/◌, ◌%◌, ◌⊎◌, ⊎_elim, inl, inr, List, [], ◌∷◌, Option, Some, refl, sym, ap, ◌∙◌, subst, arith, nat_eq, Bool, true, false, ◌&&◌}
+use Rattle.std.specs.Prelude.{◌≢◌, if◌then◌else◌}
 use Rattle.std.proofs.lemmas.Bool.{eqb-true, eq-eqb, eqb-false}
 use Rattle.std.proofs.lemmas.Bool.Decides.{nat_tests}
 use Rattle.kept_values.specs.declared.word.Word.{Word as Kept}
@@ -9,17 +9,16 @@ use Rattle.kept_values.specs.Tables.{Table, id_in, dirty_in, Among, Puts}
 use Rattle.shader_tree.specs.declared.node.Space.{Space}
 use Rattle.shader_tree.specs.declared.node.Space.TheVariants as space
 use Rattle.word_base.specs.Registers.{Registers}
-use Rattle.shader_tree.specs.Values.{Words, words, size_of}
+use Rattle.shader_tree.specs.Values.{Words, words}
 use Rattle.shader_tree.specs.Lane.{with_scratch, with_word}
 use Rattle.spirv_words.specs.Values as value
 use Rattle.spirv_words.specs.Memory.{with_at, with_words}
-use Rattle.spirv_words.specs.Lane.{State, with_memory}
+use Rattle.spirv_words.specs.Lane.{State}
 use Rattle.spirv_symbols.specs.declared.symbol.Symbol.{Symbol}
 use Rattle.spirv_symbols.specs.declared.symbol.Symbol.TheVariants as symbol
-use Rattle.spirv_symbols.specs.declared.entry.Entry.{Entry}
 use Rattle.spirv_symbols.specs.Tables.{Has}
-use Rattle.spirv_emit.specs.Emission.{Emission, Frame, spaces_of, per_array, space_of_element, index_of_element}
-use Rattle.spirv_emit.specs.Lanes.{Site, Mirrors, Knows, IsClean, IsInside, IsUsed, IsCleanAt, HoldsArray, Holds, element_at, word_of}
+use Rattle.spirv_emit.specs.Emission.{Emission, Frame, per_array, space_of_element, index_of_element}
+use Rattle.spirv_emit.specs.Lanes.{Site, Mirrors, IsClean, IsInside, IsUsed, IsCleanAt, HoldsArray, Holds, element_at, word_of}
 use Rattle.spirv_emit.specs.Growing.{Completes}
 use Rattle.spirv_emit.proofs.Growth.{at_same, at_other}
 

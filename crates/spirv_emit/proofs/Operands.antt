@@ -1,14 +1,14 @@
 -- Expressions by what their parts give.
-use Rattle.std.proofs.Common.{◌≡◌, ℕ, ◌+◌, ◌*◌, ◌/◌, ◌%◌, ◌<◌, ◌≤◌, ◌^◌, List, [], ◌∷◌, Option, Some, None, refl, sym, ap, ◌∙◌, subst, arith}
-use Rattle.std.specs.Prelude.{Ok, Err, Bool, true, false, ◌&&◌, nat_lt, if◌then◌else◌, IsTrue}
+use Rattle.std.proofs.Common.{◌≡◌, ℕ, ◌<◌, ◌^◌, List, [], ◌∷◌, Option, Some, None, refl, ◌∙◌}
+use Rattle.std.specs.Prelude.{Ok, Bool}
 use Rattle.shader_tree.specs.declared.node.Node.{Node}
 use Rattle.shader_tree.specs.Holding.{AreGiven, HoldWords, OfWords}
-use Rattle.shader_tree.specs.Nodes.{Name, a_word, a_truth}
+use Rattle.shader_tree.specs.Nodes.{a_word, a_truth}
 use Rattle.shader_tree.specs.Terms.{Term, term_at}
 use Rattle.shader_tree.specs.Values.{Spaces, Words, IsWord, IsTruth, for_word, for_truth, for_two, for_three}
 use Rattle.shader_tree.specs.Values as tree
 use Rattle.word_base.specs.Settings.{Setting}
-use Rattle.spirv_words.specs.Values.{Value, Word, Truth, Got}
+use Rattle.spirv_words.specs.Values.{Value, Word, Truth}
 use Rattle.spirv_symbols.specs.declared.symbol.TypeSymbol.{TypeSymbol}
 use Rattle.spirv_emit.specs.Emission.{Emission, spaces_of}
 use Rattle.spirv_emit.specs.Growing.{Completes}
@@ -17,7 +17,7 @@ use Rattle.spirv_emit.specs.Lanes.{Site}
 use Rattle.spirv_emit.specs.Values.{Slot, slot, Meaning, Gives, as_value, got_of, valued}
 use Rattle.spirv_emit.specs.Values as value
 use Rattle.spirv_emit.proofs.Giving.{then', only_gives, weaker}
-use Rattle.spirv_emit.proofs.Parts.{Rest, Done, done, slots, all_of, Short}
+use Rattle.spirv_emit.proofs.Parts.{done, all_of, Short}
 
 abbrev pub WordLaw : Type 0
 WordLaw = (g : Spaces) (s : Setting) (t : Words) (e : Term) (w : ℕ) → AreGiven g s → HoldWords t → OfWords e → tree.value g s t e ≡ tree.word w

@@ -1,10 +1,10 @@
 -- The operations of the tree by what their instructions give.
-use Rattle.std.proofs.Common.{◌≡◌, ℕ, zero, suc, ◌+◌, ◌-◌, ◌*◌, ◌/◌, ◌%◌, ◌^◌, ◌<◌, ◌≤◌, inl, inr, List, [], ◌∷◌, Some, refl, sym, ap, ◌∙◌, subst, arith}
-use Rattle.std.specs.Prelude.{Ok, Err, nat_lt, nat_eq, nat_le, min, max, Bool, true, false, not, if◌then◌else◌}
+use Rattle.std.proofs.Common.{◌≡◌, ℕ, zero, suc, ◌+◌, ◌-◌, ◌*◌, ◌/◌, ◌%◌, ◌^◌, ◌<◌, ◌≤◌, List, [], ◌∷◌, refl, sym, ap, ◌∙◌, subst, arith}
+use Rattle.std.specs.Prelude.{Ok, nat_lt, nat_eq, nat_le, min, max, Bool, true, false, not, if◌then◌else◌}
 use Rattle.std.proofs.lemmas.Bool.Decides.{nat_tests}
 use Rattle.std.proofs.lemmas.Nat.{mul-lt}
 use Rattle.word_base.specs.Bits.{zeros_above}
-use Rattle.word_base.specs.Alu.{all_ones, difference, complement, lifted, truth_word, first_high, first_signed, unary, binary, ternary, inserted_field, with_bits, pair, widened}
+use Rattle.word_base.specs.Alu.{all_ones, difference, complement, truth_word, first_high, unary, binary, ternary, inserted_field, with_bits, pair, widened}
 use Rattle.word_base.specs.declared.arithmetic.Unary.{Unary}
 use Rattle.word_base.specs.declared.arithmetic.Unary.TheVariants as one
 use Rattle.word_base.specs.declared.arithmetic.Binary.{Binary}
@@ -14,12 +14,12 @@ use Rattle.word_base.specs.declared.arithmetic.Ternary.TheVariants as three
 use Rattle.word_base.specs.declared.arithmetic.Paired.{Paired}
 use Rattle.word_base.specs.declared.arithmetic.Paired.TheVariants as paired
 use Rattle.shader_tree.specs.Values.{Words}
-use Rattle.spirv_words.specs.Values.{Value, Word, Truth, Got}
+use Rattle.spirv_words.specs.Values.{Value, Word, Got}
 use Rattle.spirv_words.specs.Meanings.{highest_one}
 use Rattle.spirv_emit.specs.Emission.{Emission}
 use Rattle.spirv_emit.specs.Lanes.{Site}
-use Rattle.spirv_emit.specs.Operations.{calc, choosing, on_word, on_words, on_three, on_four, on_cut, as_word, second_where, second_unless, from_above, on_field, divided, part_of, finding}
-use Rattle.spirv_emit.specs.Values.{Slot, a_word, a_truth, Meaning, Gives}
+use Rattle.spirv_emit.specs.Operations.{calc, on_word, on_words, on_three, on_four, on_cut, as_word, second_where, second_unless, from_above, on_field, divided, part_of}
+use Rattle.spirv_emit.specs.Values.{a_word, Meaning, Gives}
 use Rattle.spirv_emit.proofs.Fields.{unsigned, signed}
 use Rattle.spirv_emit.proofs.Giving.{weaker}
 use Rattle.spirv_emit.proofs.Groups.{insert_by}

@@ -1,12 +1,12 @@
 -- The parts of an expression, one after the other: what each needs, and what has been written when all of them are.
-use Rattle.std.proofs.Common.{◌≡◌, ℕ, ◌+◌, ◌<◌, ◌≤◌, ◌^◌, ◌⊎◌, ⊎_elim, inl, inr, List, [], ◌∷◌, ◌++◌, Option, Some, None, refl, sym, ap, ◌∙◌, subst, arith}
+use Rattle.std.proofs.Common.{◌≡◌, ℕ, ◌+◌, ◌≤◌, ◌⊎◌, ⊎_elim, inl, inr, List, [], ◌∷◌, ◌++◌, Option, Some, None, refl, sym, ap, ◌∙◌, subst, arith}
 use Rattle.std.specs.Prelude.{Bool, true, false, not, ◌&&◌, ◌||◌, IsTrue, slice_get}
 use Rattle.shader_tree.specs.declared.node.Node.{Node}
 use Rattle.shader_tree.specs.declared.node.Node.TheVariants as node
 use Rattle.shader_tree.specs.declared.node.Expr.{Expr}
 use Rattle.shader_tree.specs.declared.node.Expr.TheVariants as expr
 use Rattle.shader_tree.specs.Costs.{words_in, ids_in, node_cost, sum_over}
-use Rattle.shader_tree.specs.Holding.{OfWords, is_long}
+use Rattle.shader_tree.specs.Holding.{OfWords}
 use Rattle.shader_tree.specs.Nodes.{Sort, AWord, ATruth, AStatement, Name, named, has, is_expr, is_of_sort}
 use Rattle.shader_tree.specs.Terms.{Term, Nothing, term_by, term_for, term_within, term_at, Stands, AreEarlier}
 use Rattle.shader_tree.specs.Walks.{folded, holds_no, Each, spaces_in, rooms_in, threads_in, spaces_at, rooms_at, threads_at}
@@ -16,7 +16,6 @@ use Rattle.word_base.specs.declared.event.Room.{Room}
 use Rattle.tpf_decode.specs.declared.argument.Kind.{Kind}
 use Rattle.spirv_symbols.specs.declared.symbol.TypeSymbol.{TypeSymbol}
 use Rattle.spirv_symbols.specs.declared.symbol.TypeSymbol.TheVariants as symbol
-use Rattle.spirv_symbols.specs.declared.entry.Entry.{Entry}
 use Rattle.spirv_words.specs.Text.{Instr}
 use Rattle.spirv_emit.specs.declared.buffer.ConstantBuffer.{ConstantBuffer}
 use Rattle.shader_tree.specs.declared.node.Space.{Space}

@@ -1,14 +1,13 @@
 -- Steps of the writing: what every emitter keeps, and the room that is left.
-use Rattle.std.proofs.Common.{◌≡◌, ℕ, zero, suc, ◌+◌, ◌-◌, ◌<◌, ◌≤◌, ◌⊎◌, ⊎_elim, inl, inr, List, [], ◌∷◌, ◌++◌, length, Some, refl, sym, ap, ◌∙◌, subst, arith, length-append, append-nil}
-use Rattle.std.specs.Prelude.{slice_get, map, IsTrue, nat_lt, Bool, true, false}
+use Rattle.std.proofs.Common.{◌≡◌, ℕ, zero, suc, ◌+◌, ◌<◌, ◌≤◌, ◌⊎◌, ⊎_elim, inl, inr, List, [], ◌∷◌, ◌++◌, length, Some, refl, sym, ap, ◌∙◌, subst, arith, length-append, append-nil}
+use Rattle.std.specs.Prelude.{slice_get, map, IsTrue, nat_lt}
 use Rattle.std.specs.List.{sum}
 use Rattle.std.proofs.lemmas.Bool.Decides.{nat_tests}
 use Rattle.kept_values.specs.declared.word.Word.{Word as Kept}
 use Rattle.kept_values.specs.Tables.{id_in, dirty_in, elements_in, limits_in, Keeps, Comes}
-use Rattle.spirv_words.specs.Text.{Instr, instr, is_instr, fits_op, words_of_instr}
+use Rattle.spirv_words.specs.Text.{instr, is_instr, fits_op}
 use Rattle.spirv_words.specs.Operations.{op_of}
 use Rattle.spirv_symbols.specs.declared.symbol.Symbol.{Symbol}
-use Rattle.spirv_symbols.specs.declared.entry.Entry.{Entry}
 use Rattle.spirv_symbols.specs.Contexts.{Context}
 use Rattle.spirv_symbols.specs.Rows.{words_of}
 use Rattle.spirv_symbols.specs.Tables.{Table, Has, IsTable, Stands, Extends, Puts, weight}
@@ -16,7 +15,7 @@ use Rattle.spirv_symbols.specs.Tables as symbols
 use Rattle.spirv_emit.specs.Begun.{IsBegun, IsThere, AreFixed}
 use Rattle.spirv_emit.specs.Emission.{Emission, next_of, words_used, ids_used, words_left, ids_left, waiting_words, waiting_ids}
 use Rattle.spirv_emit.specs.Growing.{Same}
-use Rattle.spirv_emit.specs.Steps.{Acts, Adds, Takes, Named}
+use Rattle.spirv_emit.specs.Steps.{Named}
 use Rattle.spirv_emit.proofs.Lists.{and_right}
 
 pub id_room : (a : Emission) → 1 ≤ ids_left a → next_of a < a.symbols.limit
@@ -108,14 +107,14 @@ get_split [] ys k y h = inr (k, h)
 get_split (x ∷ xs) ys zero y h = inl h
 get_split (x ∷ xs) ys (suc k) y h = get_split xs ys k y h
 
-has_front : (t u : Table) (s : Symbol) (id : ℕ) → Extends t u → Has t.entries s id → Has u.entries s id
+pub has_front : (t u : Table) (s : Symbol) (id : ℕ) → Extends t u → Has t.entries s id → Has u.entries s id
 has_front t u s id x h = (
   h.0,
   subst (λ l. slice_get l h.0 ≡ Some (symbols.entry s id)) (sym x.list)
       (get_front t.entries x.more h.0 (symbols.entry s id) h.1),
 )
 
-has_back : (t u : Table) (s : Symbol) (id : ℕ) → Extends t u → Has u.entries s id → Has t.entries s id ⊎ (t.next ≤ id)
+pub has_back : (t u : Table) (s : Symbol) (id : ℕ) → Extends t u → Has u.entries s id → Has t.entries s id ⊎ (t.next ≤ id)
 has_back t u s id x h =
     let e = symbols.entry s id in
     ⊎_elim (λ q. inl (h.0, q)) (λ q. inr (x.later q.0 e q.1)) (get_split t.entries x.more h.0 e (subst (λ l. slice_get l h.0 ≡ Some e) x.list h.1))
@@ -123,7 +122,7 @@ has_back t u s id x h =
 there_on : (t u : Table) (s : Symbol) → Extends t u → IsThere t.entries s → IsThere u.entries s
 there_on t u s x h = (h.0, has_front t u s h.0 x h.1)
 
-fixed_on : (t u : Table) → Extends t u → AreFixed t.entries → AreFixed u.entries
+pub fixed_on : (t u : Table) → Extends t u → AreFixed t.entries → AreFixed u.entries
 fixed_on t u x h = record {
   word = there_on t u _ x h.word;
   truth = there_on t u _ x h.truth;
@@ -142,6 +141,8 @@ fixed_on t u x h = record {
   ones = there_on t u _ x h.ones;
   extended = there_on t u _ x h.extended;
   holds = there_on t u _ x h.holds;
+  main = there_on t u _ x h.main;
+  label = there_on t u _ x h.label;
 }
 
 module _ (a b : Emission) (s : Symbol) (r : ℕ) (frame : b.frame ≡ a.frame) (code : b.code ≡ a.code) (kept : b.kept ≡ a.kept)

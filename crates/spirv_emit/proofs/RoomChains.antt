@@ -1,13 +1,13 @@
 -- Pointers to words of arrays of the lane and of rooms.
-use Rattle.std.proofs.Common.{◌≡◌, ℕ, ◌+◌, ◌-◌, ◌*◌, ◌/◌, ◌<◌, List, [], ◌∷◌, Option, Some, None, refl, sym, ap, ◌∙◌, subst, arith, Bool, true, false}
-use Rattle.std.specs.Prelude.{slice_get, nat_lt, if◌then◌else◌, Ok, Err}
+use Rattle.std.proofs.Common.{◌≡◌, ℕ, ◌+◌, ◌-◌, ◌*◌, ◌/◌, ◌<◌, List, [], ◌∷◌, Some, refl, sym, ap, ◌∙◌, subst, arith, Bool, true, false}
+use Rattle.std.specs.Prelude.{slice_get, nat_lt, Ok, Err}
 use Rattle.std.proofs.lemmas.Bool.{ltb-true, lt-ltb}
 use Rattle.word_base.specs.declared.event.Room.{Room}
 use Rattle.word_base.specs.declared.event.Room.TheVariants as room
 use Rattle.spirv_words.specs.StorageClass as storage
 use Rattle.spirv_words.specs.Decoration.{ArrayStride, Offset}
 use Rattle.spirv_words.specs.Text.{instr}
-use Rattle.spirv_words.specs.Sorts.{Pointer, Array, RuntimeArray, Struct, Words, sort_of, sort_of_value}
+use Rattle.spirv_words.specs.Sorts.{Pointer, Array, RuntimeArray, Struct, Words, sort_of}
 use Rattle.spirv_words.specs.Values.{Value, Word, Truth, NoParts, Part, AtLocal, AtRoom, AtConstants, AtPush, AtInput, Got}
 use Rattle.spirv_words.specs.Memory.{chained}
 use Rattle.spirv_words.specs.Globals.{Machine, decoration, member_decoration}
@@ -25,7 +25,7 @@ use Rattle.spirv_symbols.specs.declared.symbol.TypeSymbol.{TypeSymbol}
 use Rattle.spirv_emit.specs.Emission.{Emission}
 use Rattle.spirv_emit.specs.Begun.{IsBegun}
 use Rattle.spirv_emit.specs.Joins.{given, always, joined, only}
-use Rattle.spirv_emit.specs.Code.{Typed, IsOf, type_of_symbol}
+use Rattle.spirv_emit.specs.Code.{type_of_symbol}
 use Rattle.spirv_emit.specs.Lanes.{Site, IsWhole, IsArray, IsView, HasMemorySort, meaning}
 use Rattle.shader_tree.specs.Values.{Words as Words'}
 use Rattle.spirv_emit.specs.Growing.{Completes}

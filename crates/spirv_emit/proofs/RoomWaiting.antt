@@ -1,11 +1,11 @@
 -- Steps on the words that wait: what every emitter keeps, and the room that is left.
-use Rattle.std.proofs.Common.{◌≡◌, ℕ, zero, suc, ◌+◌, ◌-◌, ◌<◌, ◌≤◌, ◌⊎◌, ⊎_elim, inl, inr, List, [], ◌∷◌, ◌++◌, length, Some, None, refl, sym, ap, ◌∙◌, subst, arith}
+use Rattle.std.proofs.Common.{◌≡◌, ℕ, ◌+◌, ◌<◌, ◌≤◌, ◌⊎◌, ⊎_elim, inl, inr, List, [], ◌∷◌, ◌++◌, length, Some, refl, sym, ap, ◌∙◌, subst, arith}
 use Rattle.std.specs.Prelude.{map, sum_by}
 use Rattle.std.specs.List.{sum}
 use Rattle.std.proofs.lemmas.List.Sums.{sum_by-cons, sum_by_push}
 use Rattle.kept_values.specs.declared.word.Word.{Word as Kept}
 use Rattle.kept_values.specs.declared.word.Word.TheVariants as kept
-use Rattle.kept_values.specs.Tables.{Table, id_in, dirty_in, elements_in, limits_in, Among, Puts, Pops, Drops, IsLast, IsEmpty, Comes}
+use Rattle.kept_values.specs.Tables.{Table, id_in, dirty_in, elements_in, Among, Puts, Pops, Drops, IsLast, IsEmpty}
 use Rattle.spirv_words.specs.StorageClass as storage
 use Rattle.spirv_symbols.specs.declared.symbol.Symbol.{Symbol}
 use Rattle.spirv_symbols.specs.declared.symbol.Symbol.TheVariants.{AType, Constant}

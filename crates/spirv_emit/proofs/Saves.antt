@@ -1,37 +1,30 @@
 -- A word that waited goes to its variable. It is taken for one in memory first, and its code is read as if it still waited.
-use Rattle.std.proofs.Common.{◌≡◌, ℕ, ◌+◌, ◌-◌, ◌*◌, ◌/◌, ◌<◌, ◌≤◌, ◌⊎◌, ⊎_elim, inl, inr, List, [], ◌∷◌, ◌++◌, length, Option, Some, None, refl, sym, ap, ◌∙◌, subst, arith, append-nil, length-append, map, min}
-use Rattle.std.specs.Prelude.{slice_get, Ok, Err, IsTrue, nat_lt, true}
-use Rattle.std.proofs.lemmas.Bool.{lt-ltb}
-use Rattle.std.proofs.lemmas.List.{length-map, length-take}
+use Rattle.std.proofs.Common.{◌≡◌, ℕ, ◌+◌, ◌<◌, ◌≤◌, inl, inr, List, [], ◌∷◌, ◌++◌, length, Some, refl, sym, ap, ◌∙◌, subst, arith, length-append}
+use Rattle.std.specs.Prelude.{Ok}
 use Rattle.kept_values.specs.declared.word.Word.{Word as Kept}
 use Rattle.kept_values.specs.declared.word.Word.TheVariants as kept
-use Rattle.kept_values.specs.Tables.{Table, id_in, dirty_in, elements_in, limits_in, Among, IsLast, Pops}
-use Rattle.kept_values.specs.Shelves.{all_but_last}
-use Rattle.shader_tree.specs.declared.node.Space.{Space}
-use Rattle.shader_tree.specs.declared.node.Space.TheVariants as space
-use Rattle.shader_tree.specs.Values.{Words, size_of}
+use Rattle.kept_values.specs.Tables.{Table, id_in, dirty_in, limits_in, Among, IsLast, Pops}
+use Rattle.shader_tree.specs.Values.{Words}
 use Rattle.spirv_words.specs.StorageClass as storage
 use Rattle.spirv_words.specs.Text.{Instr, instr}
-use Rattle.spirv_words.specs.Values.{Value, Word, AtLocal}
-use Rattle.spirv_words.specs.Lane.{State, step, with_memory}
+use Rattle.spirv_words.specs.Values.{Word, AtLocal}
+use Rattle.spirv_words.specs.Lane.{with_memory}
 use Rattle.spirv_symbols.specs.declared.symbol.Symbol.{Symbol}
 use Rattle.spirv_symbols.specs.declared.symbol.Symbol.TheVariants as symbols
 use Rattle.spirv_symbols.specs.declared.symbol.TypeSymbol.TheVariants as symbol
-use Rattle.spirv_symbols.specs.Contexts as context
 use Rattle.spirv_symbols.specs.Tables.{Has}
-use Rattle.spirv_emit.specs.Emission.{Emission, Frame, next_of, spaces_of, space_of_element, index_of_element}
+use Rattle.spirv_emit.specs.Emission.{Emission, Frame, next_of}
 use Rattle.spirv_emit.specs.Begun.{IsBegun}
-use Rattle.spirv_emit.specs.Code.{Typed, IsOf, CoversKept, type_of_symbol}
-use Rattle.spirv_emit.specs.Lanes.{Site, IsWhole, Mirrors, IsUsed, IsInside, IsArray, word_of, meaning}
+use Rattle.spirv_emit.specs.Code.{type_of_symbol}
+use Rattle.spirv_emit.specs.Lanes.{Site, Mirrors, IsInside, word_of, meaning}
 use Rattle.spirv_emit.specs.Growing.{Same, Grows, Completes}
-use Rattle.spirv_emit.specs.Values.{Slot, slot, a_word, Meaning, Gives, nothing, Saves}
-use Rattle.spirv_emit.specs.Joins.{given, always, joined, only}
-use Rattle.spirv_emit.specs.Steps.{Named, Acts, Adds, Settled, IsPopped, StoresTo}
-use Rattle.spirv_emit.proofs.Growth.{same_on, completes_back, settled_grows}
+use Rattle.spirv_emit.specs.Values.{slot, Meaning, Gives, nothing, Saves}
+use Rattle.spirv_emit.specs.Joins.{given, always, joined}
+use Rattle.spirv_emit.specs.Steps.{Named, Acts, Adds, IsPopped, StoresTo}
+use Rattle.spirv_emit.proofs.Growth.{settled_grows}
 use Rattle.spirv_emit.proofs.Giving.{then', only_gives, named_gives, nothing_gives}
 use Rattle.spirv_emit.proofs.Memory.{variable, place, stored, stored_cells, flushes_well}
-use Rattle.spirv_emit.proofs.Stores.{there_named, store_step, flushed_gives}
-use Rattle.spirv_emit.proofs.Room.{has_below}
+use Rattle.spirv_emit.proofs.Stores.{store_step, flushed_gives}
 use Rattle.spirv_emit.proofs.RoomWaiting.{pops_either, pops_among}
 
 -- the same emitter with other words kept

@@ -1,16 +1,16 @@
 -- Words of the lane and words that it is given, by the code that reads them.
-use Rattle.std.proofs.Common.{◌≡◌, ℕ, ◌+◌, ◌*◌, ◌/◌, ◌%◌, ◌<◌, ◌≤◌, ◌⊎◌, ⊎_elim, inl, inr, List, [], ◌∷◌, Some, None, refl, sym, ap, ◌∙◌, subst, arith}
-use Rattle.std.specs.Prelude.{Ok, Err, nat_eq, nat_lt, Bool, true, false, if◌then◌else◌, length, IsTrue, slice_get}
+use Rattle.std.proofs.Common.{◌≡◌, ℕ, ◌<◌, ◌≤◌, ◌⊎◌, ⊎_elim, inl, inr, List, [], ◌∷◌, Some, refl, sym, ap, ◌∙◌, subst, arith}
+use Rattle.std.specs.Prelude.{Ok, Err, nat_eq, nat_lt, Bool, true, false, if◌then◌else◌, length, slice_get}
 use Rattle.std.proofs.lemmas.Bool.Decides.{nat_tests}
 use Rattle.kept_values.specs.declared.word.Word.{Word as Kept}
 use Rattle.kept_values.specs.declared.word.Word.TheVariants as kept
-use Rattle.kept_values.specs.Tables.{Table, dirty_in, elements_in, Among}
+use Rattle.kept_values.specs.Tables.{Table, dirty_in, Among}
 use Rattle.shader_tree.specs.declared.node.Space.{Space}
 use Rattle.shader_tree.specs.declared.node.Space.TheVariants as space
 use Rattle.shader_tree.specs.Values.{Words, size_of, word_in}
 use Rattle.spirv_words.specs.StorageClass as storage
-use Rattle.spirv_words.specs.Text.{Instr, instr}
-use Rattle.spirv_words.specs.Values.{Value, Word, Truth, NoParts, Part, AtLocal, AtRoom, AtConstants, AtPush, AtInput, Got, and_then, or_rule, word_of}
+use Rattle.spirv_words.specs.Text.{instr}
+use Rattle.spirv_words.specs.Values.{Value, Word, Truth, NoParts, Part, AtLocal, AtRoom, AtConstants, AtPush, AtInput, Got, or_rule, word_of}
 use Rattle.spirv_words.specs.Globals.{built_in}
 use Rattle.spirv_words.specs.Lane.{State}
 use Rattle.spirv_symbols.specs.declared.symbol.Symbol.{Symbol}
@@ -26,9 +26,9 @@ use Rattle.spirv_emit.specs.Emission.{Emission, Frame, spaces_of}
 use Rattle.spirv_emit.specs.Growing.{Completes}
 use Rattle.spirv_emit.specs.Joins.{given, always, joined, only}
 use Rattle.spirv_emit.specs.Lanes.{Site, Mirrors, meaning, IsArray, IsUsed, HasSort, word_of as lane_word}
-use Rattle.spirv_emit.specs.Reads.{inside, within, points, given_word, local_at, word_at, array_word, space_word, the_word, input_word, flat_word, variable_of, array_of}
+use Rattle.spirv_emit.specs.Reads.{inside, points, given_word, local_at, array_word, space_word, the_word, input_word, flat_word, variable_of, array_of}
 use Rattle.spirv_emit.specs.Steps.{Named, Adds}
-use Rattle.spirv_emit.specs.Values.{Slot, slot, a_word, Meaning, Gives}
+use Rattle.spirv_emit.specs.Values.{slot, a_word, Meaning, Gives}
 use Rattle.spirv_emit.proofs.Chains.{local_chain, triple_chain}
 use Rattle.spirv_emit.proofs.Giving.{and_then_ok, ok_same, then', only_gives, weaker, named_gives}
 use Rattle.spirv_emit.proofs.Groups.{start, fixed}

@@ -1,9 +1,8 @@
 -- The expressions of statements: what each needs, and what has been written when it was.
-use Rattle.std.proofs.Common.{◌≡◌, ℕ, ◌+◌, ◌<◌, ◌≤◌, ◌⊎◌, ⊎_elim, inl, inr, List, [], ◌∷◌, ◌++◌, Option, Some, None, refl, sym, ap, ◌∙◌, subst, arith}
-use Rattle.std.specs.Prelude.{Bool, true, false, not, ◌&&◌, ◌||◌, IsTrue, slice_get}
+use Rattle.std.proofs.Common.{◌≡◌, ℕ, ◌+◌, ◌≤◌, List, [], ◌∷◌, ◌++◌, Option, Some, None, refl, sym, ap, ◌∙◌, subst, arith}
+use Rattle.std.specs.Prelude.{true, not, ◌&&◌, ◌||◌, IsTrue, slice_get}
 use Rattle.word_base.specs.declared.event.Act.{Act}
 use Rattle.word_base.specs.declared.event.Room.{Room}
-use Rattle.kept_values.specs.Tables.{limits_in, holds}
 use Rattle.shader_tree.specs.declared.node.Node.{Node}
 use Rattle.shader_tree.specs.declared.node.Node.TheVariants as node
 use Rattle.shader_tree.specs.declared.node.Expr.{Expr}
@@ -15,19 +14,17 @@ use Rattle.shader_tree.specs.Nodes.{AWord, Name, has, is_expr, is_of_sort, sort_
 use Rattle.shader_tree.specs.Nodes as nodes
 use Rattle.shader_tree.specs.Terms.{Term, term_by, term_for, term_within, term_at, Stands}
 use Rattle.shader_tree.specs.Terms as term
-use Rattle.shader_tree.specs.Walks.{Each, holds_no, spaces_in, rooms_in, threads_in}
+use Rattle.shader_tree.specs.Walks.{holds_no, spaces_in, rooms_in, threads_in}
 use Rattle.spirv_symbols.specs.declared.symbol.Symbol.{Symbol}
 use Rattle.spirv_symbols.specs.declared.symbol.Symbol.TheVariants.{Memory, Input}
 use Rattle.spirv_symbols.specs.declared.symbol.TypeSymbol.TheVariants as symbol
-use Rattle.spirv_symbols.specs.declared.entry.Entry.{Entry}
-use Rattle.spirv_symbols.specs.Tables.{Has}
 use Rattle.spirv_words.specs.Text.{Instr}
 use Rattle.spirv_emit.specs.declared.buffer.ConstantBuffer.{ConstantBuffer}
 use Rattle.spirv_emit.specs.Begun.{IsBegun, IsThere, IsBufferThere, IsSpaceThere, Names, is_searched, built_in_of, place_symbol}
 use Rattle.spirv_emit.specs.Emission.{Emission, Frame, words_left, ids_left, buffer_of}
 use Rattle.spirv_emit.specs.Expressions.{May, Did}
 use Rattle.spirv_emit.specs.Growing.{Grows}
-use Rattle.spirv_emit.specs.Values.{Slot, slot, a_word, Gives, Emitted, valued, type_of_term}
+use Rattle.spirv_emit.specs.Values.{slot, a_word, Gives, Emitted, valued, type_of_term}
 use Rattle.spirv_emit.proofs.Lists.{and_left, and_right, each_front, each_back, each_by}
 
 -- an expression that is a word has the type of words

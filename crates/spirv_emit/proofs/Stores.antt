@@ -1,10 +1,8 @@
 -- One instruction behind a piece of code: without a result, or with one that is an answer.
-use Rattle.std.proofs.Common.{◌≡◌, ℕ, ◌+◌, ◌<◌, ◌≤◌, ◌^◌, ◌⊎◌, ⊎_elim, inl, inr, List, [], ◌∷◌, ◌++◌, length, Option, Some, None, refl, sym, ap, ◌∙◌, subst, arith, length-append, append-nil}
-use Rattle.std.specs.Prelude.{slice_get, Ok, Err, map, IsTrue}
-use Rattle.word_base.specs.Lanes.{Turn, Silent, Asks, Goes}
+use Rattle.std.proofs.Common.{◌≡◌, ℕ, ◌+◌, ◌<◌, ⊎_elim, inl, inr, List, [], ◌∷◌, ◌++◌, length, Option, Some, refl, sym, ap, ◌∙◌, subst, arith, length-append, append-nil}
+use Rattle.std.specs.Prelude.{slice_get, Ok, map, IsTrue}
+use Rattle.word_base.specs.Lanes.{Silent, Asks}
 use Rattle.word_base.specs.declared.event.Event.{Event}
-use Rattle.word_base.specs.declared.event.Event.TheVariants as event
-use Rattle.word_base.specs.declared.event.Room.{Room}
 use Rattle.kept_values.specs.declared.word.Word.{Word as Kept}
 use Rattle.kept_values.specs.declared.word.Word.TheVariants as kept
 use Rattle.kept_values.specs.Tables.{Table, id_in, dirty_in, Puts}
@@ -12,22 +10,22 @@ use Rattle.shader_tree.specs.Values.{Words}
 use Rattle.shader_tree.specs.Lane.{with_scratch}
 use Rattle.spirv_words.specs.Definitions.{are_distinct}
 use Rattle.spirv_words.specs.Text.{Instr, instr, is_instr, words_of_instr}
-use Rattle.spirv_words.specs.Values.{Value, Word, AtLocal, AtRoom, Got}
-use Rattle.spirv_words.specs.Lane.{State, step, sets, with_value, with_memory, goes_to}
+use Rattle.spirv_words.specs.Values.{Value, Word, AtLocal}
+use Rattle.spirv_words.specs.Lane.{State, step, with_value, with_memory, goes_to}
 use Rattle.spirv_symbols.specs.declared.symbol.Symbol.{Symbol}
 use Rattle.spirv_symbols.specs.declared.symbol.Symbol.TheVariants.{AType}
 use Rattle.spirv_symbols.specs.declared.symbol.TypeSymbol.TheVariants as symbol
 use Rattle.spirv_symbols.specs.declared.entry.Entry.{Entry}
 use Rattle.spirv_symbols.specs.Tables.{Has}
 use Rattle.spirv_emit.specs.Emission.{Emission, next_of}
-use Rattle.spirv_emit.specs.Code.{In, Typed, typed, typed_result, values, Defines, IsPlain, ArePlain, known_behind, behind, IsOf, IsTyped, AreTyped, Covers, CoversKept}
-use Rattle.spirv_emit.specs.Lanes.{Site, IsWhole, Mirrors, Stands, HasAt}
-use Rattle.spirv_emit.specs.Growing.{Same, Grows, Completes}
-use Rattle.spirv_emit.specs.Values.{Slot, slot, AreValues, AreBelow, AreKnown, Runs, Reaches, Knowing, Meaning, Gives, nothing}
+use Rattle.spirv_emit.specs.Code.{In, Typed, typed, typed_result, values, IsPlain, ArePlain, behind, IsOf, IsTyped, Covers, CoversKept}
+use Rattle.spirv_emit.specs.Lanes.{Site, IsWhole, Mirrors, Stands}
+use Rattle.spirv_emit.specs.Growing.{Grows, Completes}
+use Rattle.spirv_emit.specs.Values.{Slot, slot, AreValues, AreKnown, Runs, Knowing, Meaning, Gives, nothing}
 use Rattle.spirv_emit.specs.Steps.{Named, Adds, Acts, Settled, IsPut}
-use Rattle.spirv_emit.specs.Blocks.{Change, Behind, Alters, Meets}
+use Rattle.spirv_emit.specs.Blocks.{Change, Alters, Meets}
 use Rattle.spirv_emit.proofs.Lists.{code_back, each_append, behind_append, typed_append}
-use Rattle.spirv_emit.proofs.Growth.{grows_on, completes_back, apart, settled_grows, add_grows, all_one, at_same, at_other, goes_join, runs_none, runs_on, runs_one, stands_front, one_defines}
+use Rattle.spirv_emit.proofs.Growth.{grows_on, completes_back, apart, settled_grows, add_grows, all_one, at_same, runs_on, stands_front, one_defines}
 use Rattle.spirv_emit.proofs.Giving.{mirrors_value, plain_behind, ok_same}
 use Rattle.spirv_emit.proofs.Forms.{acts}
 use Rattle.spirv_emit.proofs.Memory.{stored, kept_differ, some_same, PutsWell, put_mirrors, sets_well}

@@ -1,11 +1,11 @@
 -- Values that were got, and what operations of the tree and sequences of instructions compute.
-use Rattle.std.proofs.Common.{◌≡◌, ℕ, zero, suc, ◌+◌, ◌-◌, ◌*◌, ◌/◌, ◌%◌, ◌^◌, ◌<◌, ◌≤◌, inl, inr, List, [], ◌∷◌, Some, refl, sym, ap, ◌∙◌, subst, arith}
-use Rattle.std.specs.Prelude.{Ok, Err, nat_lt, nat_eq, min, Bool, true, false, if◌then◌else◌}
+use Rattle.std.proofs.Common.{◌≡◌, ℕ, zero, suc, ◌/◌, ◌%◌, ◌^◌, ◌<◌, List, [], ◌∷◌, Some, refl, ap, ◌∙◌, arith}
+use Rattle.std.specs.Prelude.{Ok, Err, nat_lt, min, Bool, true, false, if◌then◌else◌}
 use Rattle.std.proofs.lemmas.Bool.Decides.{nat_tests}
 use Rattle.word_base.specs.Bits.{bit_by_bit}
 use Rattle.word_base.specs.Alu.{and_of}
 use Rattle.shader_tree.specs.Values.{Words}
-use Rattle.spirv_words.specs.Values.{Value, Word, Truth, NoParts, Part, AtLocal, AtRoom, AtConstants, AtPush, AtInput, Got, both, and_then, word_of, truth_of}
+use Rattle.spirv_words.specs.Values.{Value, Word, Truth, NoParts, Part, AtLocal, AtRoom, AtConstants, AtPush, AtInput, Got, both, word_of, truth_of}
 use Rattle.spirv_emit.specs.Lanes.{Site}
 use Rattle.spirv_emit.specs.Values.{Meaning}
 use Rattle.spirv_emit.specs.Operations.{short, on_word, on_words, on_three, on_four}

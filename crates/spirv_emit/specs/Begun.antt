@@ -16,7 +16,7 @@ use Rattle.shader_tree.specs.Walks.{Each, holds_no, spaces_in, rooms_in, threads
 use Rattle.spirv_words.specs.StorageClass as storage
 use Rattle.spirv_words.specs.BuiltIn.{WorkgroupId, LocalInvocationId, GlobalInvocationId, LocalInvocationIndex}
 use Rattle.spirv_symbols.specs.declared.symbol.Symbol.{Symbol}
-use Rattle.spirv_symbols.specs.declared.symbol.Symbol.TheVariants.{AType, Constant, True, Import, Input, Memory, Uniform, Push, Registers, Elements, ImmediateArray}
+use Rattle.spirv_symbols.specs.declared.symbol.Symbol.TheVariants.{AType, Constant, Main, FirstLabel, True, Import, Input, Memory, Uniform, Push, Registers, Elements, ImmediateArray}
 use Rattle.spirv_symbols.specs.declared.symbol.TypeSymbol.TheVariants.{Word, Truth, Pair, WordPointer}
 use Rattle.spirv_symbols.specs.declared.entry.Entry.{Entry}
 use Rattle.spirv_symbols.specs.Contexts.{empty_context}
@@ -28,7 +28,7 @@ abbrev pub IsThere : List Entry → Symbol → Type 0
 IsThere entries s = (id : ℕ) × Has entries s id
 
 -- THE SYMBOLS that count for no node: types of values and of pointers to words, the constants that operations use, the
--- extended instructions.
+-- extended instructions, the function and its first label.
 pub record AreFixed (entries : List Entry) : Type 0 where
   pub word : IsThere entries (AType Word)
   pub truth : IsThere entries (AType Truth)
@@ -47,6 +47,8 @@ pub record AreFixed (entries : List Entry) : Type 0 where
   pub ones : IsThere entries (Constant all_ones)
   pub extended : IsThere entries Import
   pub holds : IsThere entries True
+  pub main : IsThere entries Main
+  pub label : IsThere entries FirstLabel
 
 -- a word has a variable of its own, where it is no array's
 abbrev pub HasVariable : Kept → Type 0

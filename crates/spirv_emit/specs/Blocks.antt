@@ -1,6 +1,6 @@
 -- What the code of statements does in each finished module that completes it, and what the code at the ends of blocks
 -- is.
-use Rattle.std.specs.Prelude.{◌≡◌, ℕ, ◌+◌, ◌*◌, ◌<◌, ◌≤◌, ◌^◌, ◌++◌, if◌then◌else◌, Bool, List, [], ◌∷◌, length, Some, Ok}
+use Rattle.std.specs.Prelude.{◌≡◌, ℕ, ◌+◌, ◌*◌, ◌<◌, ◌≤◌, ◌^◌, if◌then◌else◌, Bool, List, [], ◌∷◌, length, Some, Ok}
 use Rattle.word_base.specs.declared.event.Act.{Act}
 use Rattle.word_base.specs.declared.event.Classes.{Classes}
 use Rattle.word_base.specs.declared.event.Event.{Event}
@@ -20,7 +20,7 @@ use Rattle.spirv_words.specs.Lane.{State, step}
 use Rattle.spirv_emit.specs.Emission.{Emission, spaces_of}
 use Rattle.spirv_emit.specs.Code.{Typed, ArePlain, Covers, CoversKept}
 use Rattle.spirv_emit.specs.Lanes.{Site, Mirrors, Stands}
-use Rattle.spirv_emit.specs.Growing.{Same, Grows, Completes}
+use Rattle.spirv_emit.specs.Growing.{Grows, Completes}
 use Rattle.spirv_emit.specs.Values.{Knowing}
 
 -- The lane is behind the code and mirrors these words.

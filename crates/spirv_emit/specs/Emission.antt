@@ -1,17 +1,15 @@
 -- A module while its function is written: the symbols with their ids, the words of the function's code, and the ids
 -- that the open block has for words of the lane.
-use Rattle.std.specs.Prelude.{ℕ, ◌+◌, ◌-◌, ◌/◌, ◌%◌, nat_eq, if◌then◌else◌, Bool, List, [], ◌∷◌, length, map, Option, Some, None}
+use Rattle.std.specs.Prelude.{ℕ, ◌+◌, ◌-◌, ◌/◌, ◌%◌, nat_eq, if◌then◌else◌, List, [], ◌∷◌, length, map, Option, Some, None}
 use Rattle.std.specs.List.{sum}
-use Rattle.node_pool.specs.Pools.{Pooled}
 use Rattle.kept_values.specs.declared.word.Word.{Word}
 use Rattle.kept_values.specs.declared.word.Word.TheVariants as kept
-use Rattle.kept_values.specs.Tables.{Table, dirty_in}
+use Rattle.kept_values.specs.Tables.{dirty_in}
 use Rattle.shader_tree.specs.declared.node.Space.{Space}
 use Rattle.shader_tree.specs.declared.node.Space.TheVariants as space
 use Rattle.shader_tree.specs.Values.{Spaces}
 use Rattle.spirv_symbols.specs.declared.symbol.Symbol.TheVariants.{Elements}
-use Rattle.spirv_symbols.specs.Contexts.{Context, size_of}
-use Rattle.spirv_symbols.specs.Tables as symbols
+use Rattle.spirv_symbols.specs.Contexts.{size_of}
 use Rattle.spirv_symbols.specs.Tables.{weight}
 use Rattle.spirv_emit.specs.declared.buffer.ConstantBuffer.{ConstantBuffer}
 pub use Rattle.spirv_emit.specs.declared.emitter.Frame.{Frame}

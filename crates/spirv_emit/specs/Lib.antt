@@ -3,6 +3,7 @@ pub mod Blocks
 pub mod Code
 pub mod Emission
 pub mod Expressions
+pub mod Finished
 pub mod Growing
 pub mod Joins
 pub mod Lanes

@@ -1,5 +1,5 @@
 -- What chains point to and loads give, by the values of their operands.
-use Rattle.std.specs.Prelude.{◌≡◌, ℕ, ◌+◌, ◌*◌, nat_eq, nat_lt, ◌&&◌, if◌then◌else◌, Bool, [], List, ◌∷◌, Option, Some, None, Ok, Err, slice_get, slice_index}
+use Rattle.std.specs.Prelude.{ℕ, ◌+◌, ◌*◌, nat_eq, nat_lt, ◌&&◌, if◌then◌else◌, Bool, [], List, ◌∷◌, Option, Some, None, Ok, Err, slice_get, slice_index}
 use Rattle.word_base.specs.declared.event.Room.{Room}
 use Rattle.word_base.specs.declared.event.Room.TheVariants as room
 use Rattle.kept_values.specs.declared.word.Word.{Word as Kept}

@@ -186,5 +186,7 @@ impl Emitter {
         self.symbols.symbol(context, Symbol::Constant(0xFFFF_FFFF));
         self.symbols.symbol(context, Symbol::Import);
         self.symbols.symbol(context, Symbol::True);
+        self.symbols.symbol(context, Symbol::Main);
+        self.symbols.symbol(context, Symbol::FirstLabel);
     }
 }

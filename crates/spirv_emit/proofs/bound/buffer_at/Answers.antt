@@ -1,4 +1,4 @@
-use Rattle.std.proofs.Common.{sym, ap, ◌∙◌, subst, arith, suc, ◌+◌, ◌≡◌, drop}
+use Rattle.std.proofs.Common.{sym, ◌∙◌, subst, arith, suc, ◌+◌, ◌≡◌, drop}
 use Rattle.spirv_emit.specs.Emission.{buffer_of}
 use Rattle.spirv_emit.proofs.Buffers.{here, further}
 use Rattle.spirv_emit.proofs.bound.buffer_at.Goals as goal

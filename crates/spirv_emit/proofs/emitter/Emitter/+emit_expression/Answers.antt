@@ -1,12 +1,8 @@
-use Rattle.std.proofs.Common.{◌≡◌, ℕ, ◌*◌, ◌/◌, ◌%◌, ◌^◌, [], ◌∷◌, Some, refl, sym, ap, ◌∙◌, subst, arith}
-use Rattle.std.specs.Prelude.{Ok, false, ◌&&◌, nat_lt, if◌then◌else◌}
+use Rattle.std.proofs.Common.{◌≡◌, ◌*◌, ◌/◌, ◌%◌, ◌^◌, [], ◌∷◌, refl, sym, ap, ◌∙◌, subst, arith}
+use Rattle.std.specs.Prelude.{false, ◌&&◌, nat_lt, if◌then◌else◌}
 use Rattle.word_base.specs.Alu.{unary, binary, ternary, inserted_field, pair}
 use Rattle.shader_tree.specs.declared.node.Expr.TheVariants as expr
-use Rattle.shader_tree.specs.declared.node.Node.TheVariants as node
 use Rattle.shader_tree.specs.declared.node.Space.TheVariants as space
-use Rattle.shader_tree.specs.Costs.{node_cost}
-use Rattle.shader_tree.specs.Nodes.{a_word, a_truth, named}
-use Rattle.shader_tree.specs.Terms.{Stands, term_at}
 use Rattle.shader_tree.specs.Values.{IsWord, IsTruth, compares, provided, word_at}
 use Rattle.shader_tree.specs.Values as tree
 use Rattle.spirv_words.specs.Values.{Word, Truth}

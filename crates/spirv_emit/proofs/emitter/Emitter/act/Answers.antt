@@ -1,4 +1,4 @@
-use Rattle.std.proofs.Common.{refl, arith, ◌+◌, ◌≤◌, length, ◌≡◌, ◌∷◌, []}
+use Rattle.std.proofs.Common.{refl, arith, ◌+◌, length}
 use Rattle.spirv_emit.proofs.Room.{is_short, word_room, grown, used_begun, used_words, same_ids}
 use Rattle.spirv_emit.proofs.emitter.Emitter.act.Goals as goal
 

@@ -1,5 +1,4 @@
-use Rattle.std.proofs.Common.{refl, ap, ◌∙◌, arith, ◌+◌, ◌≤◌, ◌<◌, ◌≡◌, ◌∷◌, [], length, length-append}
-use Rattle.spirv_emit.specs.Emission.{Emission}
+use Rattle.std.proofs.Common.{refl, ap, ◌∙◌, arith, ◌∷◌, [], length, length-append}
 use Rattle.spirv_emit.proofs.Room.{word_room, used_begun, used_words, same_ids}
 use Rattle.spirv_emit.proofs.emitter.Emitter.add.Goals as goal
 

@@ -1,5 +1,4 @@
-use Rattle.std.proofs.Common.{refl, ap, ◌∙◌}
-use Rattle.spirv_emit.proofs.Buffers.{own, slot_is, by_slot, none_pushed, there, placed}
+use Rattle.spirv_emit.proofs.Buffers.{own, slot_is, by_slot, none_pushed}
 use Rattle.spirv_emit.proofs.emitter.Emitter.buffer_word.Goals as goal
 
 pub uniform_word-requires-clause-buffer : goal.uniform_word-requires-clause-buffer

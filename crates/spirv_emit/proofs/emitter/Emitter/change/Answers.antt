@@ -1,4 +1,4 @@
-use Rattle.std.proofs.Common.{ℕ, sym, subst, ◌∷◌, []}
+use Rattle.std.proofs.Common.{sym, subst, ◌∷◌, []}
 use Rattle.std.specs.Prelude.{IsTrue}
 use Rattle.spirv_words.specs.Text.{instr, is_instr}
 use Rattle.spirv_emit.specs.Steps.{Adds}

@@ -1,9 +1,6 @@
-use Rattle.std.proofs.Common.{refl, ap, sym, ◌∙◌, subst, arith, ◌≤◌, ◌<◌, ◌≡◌, Some}
+use Rattle.std.proofs.Common.{refl, ap}
 use Rattle.std.specs.Prelude.{sum_by}
-use Rattle.kept_values.specs.declared.word.Word.{Word as Kept}
-use Rattle.kept_values.specs.declared.word.Word.TheVariants.{Element}
-use Rattle.kept_values.specs.Tables.{dirty_in, Among}
-use Rattle.spirv_emit.specs.Emission.{Emission, waiting_words, waiting_ids}
+use Rattle.spirv_emit.specs.Emission.{waiting_words, waiting_ids}
 use Rattle.spirv_emit.proofs.RoomWaiting.{same_words, same_ids, dropped_begun}
 use Rattle.spirv_emit.proofs.emitter.Emitter.drop_elements.Goals as goal
 

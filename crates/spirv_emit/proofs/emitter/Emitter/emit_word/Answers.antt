@@ -1,4 +1,3 @@
-use Rattle.std.proofs.Common.{refl}
 use Rattle.spirv_emit.proofs.StatementParts.{word_gives}
 use Rattle.spirv_emit.proofs.emitter.Emitter.emit_word.Goals as goal
 

@@ -1,6 +1,5 @@
-use Rattle.std.proofs.Common.{refl, arith, ◌≡◌, ◌+◌, ◌≤◌, ◌<◌, length}
-use Rattle.kept_values.specs.Tables.{dirty_in}
-use Rattle.spirv_emit.proofs.Saves.{nothing_from, nothing_on, nil_of}
+use Rattle.std.proofs.Common.{arith}
+use Rattle.spirv_emit.proofs.Saves.{nothing_from, nothing_on}
 use Rattle.spirv_emit.proofs.emitter.Emitter.flush.Goals as goal
 
 pub loop-init : goal.loop-init

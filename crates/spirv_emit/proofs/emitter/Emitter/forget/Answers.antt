@@ -1,6 +1,6 @@
 use Rattle.std.proofs.Common.{refl, ap, sym, ◌∙◌}
 use Rattle.std.specs.Prelude.{sum_by}
-use Rattle.spirv_emit.specs.Emission.{Emission, waiting_words, waiting_ids}
+use Rattle.spirv_emit.specs.Emission.{waiting_words, waiting_ids}
 use Rattle.spirv_emit.proofs.RoomWaiting.{same_words, same_ids, emptied_begun}
 use Rattle.spirv_emit.proofs.emitter.Emitter.forget.Goals as goal
 

@@ -1,4 +1,4 @@
-use Rattle.std.proofs.Common.{refl, ap, sym, ◌∙◌, arith, ◌+◌, ◌≤◌, ◌<◌, ◌≡◌}
+use Rattle.std.proofs.Common.{refl, ◌∙◌, arith}
 use Rattle.spirv_emit.proofs.Growth.{same_on}
 use Rattle.spirv_emit.proofs.emitter.Emitter.fresh_labels.Goals as goal
 

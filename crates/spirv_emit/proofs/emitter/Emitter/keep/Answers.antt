@@ -1,4 +1,4 @@
-use Rattle.std.proofs.Common.{refl, arith, ◌+◌, ◌≤◌, length, length-append, ◌≡◌, ◌++◌, append_assoc, append-nil, ap, sym, ◌∙◌}
+use Rattle.std.proofs.Common.{refl}
 use Rattle.spirv_emit.proofs.Room.{kept_begun, kept_words, kept_ids}
 use Rattle.spirv_emit.proofs.emitter.Emitter.keep.Goals as goal
 

@@ -1,10 +1,9 @@
-use Rattle.std.proofs.Common.{subst, sym, ap, ◌≡◌, ℕ, [], ◌∷◌}
-use Rattle.word_base.specs.declared.event.Room.TheVariants as room
+use Rattle.std.proofs.Common.{subst, sym, [], ◌∷◌}
 use Rattle.spirv_symbols.specs.Tables.{Has}
 use Rattle.spirv_symbols.specs.declared.symbol.Symbol.TheVariants.{Memory}
 use Rattle.spirv_emit.specs.Reads.{extent_of}
 use Rattle.spirv_emit.specs.Values.{Gives, a_word}
-use Rattle.spirv_emit.proofs.Buffers.{shared_length, counter_length}
+use Rattle.spirv_emit.proofs.Buffers.{counter_length}
 use Rattle.spirv_emit.proofs.emitter.Emitter.length.Goals as goal
 
 pub returns-in-Counter-clause-gives : goal.returns-in-Counter-clause-gives

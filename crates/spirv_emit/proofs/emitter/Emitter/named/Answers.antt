@@ -1,4 +1,4 @@
-use Rattle.std.proofs.Common.{refl, arith, ◌+◌, ◌≤◌, length, length-append, ◌≡◌, ◌++◌, append_assoc, append-nil, ap, sym, ◌∙◌}
+use Rattle.std.proofs.Common.{refl}
 use Rattle.spirv_emit.proofs.Room.{id_room, named_step, named_begun, named_words, named_ids}
 use Rattle.spirv_emit.proofs.emitter.Emitter.named.Goals as goal
 

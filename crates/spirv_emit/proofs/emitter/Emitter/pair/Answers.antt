@@ -1,5 +1,5 @@
 use Rattle.std.proofs.Common.{refl, [], ◌∷◌}
-use Rattle.spirv_words.specs.Roles.{AWord, ATruth, APair}
+use Rattle.spirv_words.specs.Roles.{AWord, APair}
 use Rattle.spirv_words.specs.Operations.{two}
 use Rattle.spirv_emit.proofs.Forms.{fits_row, two_gives}
 use Rattle.spirv_emit.proofs.emitter.Emitter.pair.Goals as goal

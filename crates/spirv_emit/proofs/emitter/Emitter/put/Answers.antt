@@ -1,4 +1,4 @@
-use Rattle.std.proofs.Common.{refl, ⊎_elim, arith, ◌<◌}
+use Rattle.std.proofs.Common.{refl, ⊎_elim, arith}
 use Rattle.spirv_emit.specs.Emission.{Emission, waiting_words, waiting_ids}
 use Rattle.spirv_emit.proofs.RoomWaiting.{waits_begun, more_words, more_ids, puts_stored}
 use Rattle.spirv_emit.proofs.emitter.Emitter.put.Goals as goal

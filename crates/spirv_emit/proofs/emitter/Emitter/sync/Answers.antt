@@ -1,4 +1,4 @@
-use Rattle.std.proofs.Common.{ℕ, [], ◌∷◌, subst, sym, true, false}
+use Rattle.std.proofs.Common.{ℕ, [], ◌∷◌, subst, sym}
 use Rattle.std.specs.Prelude.{Bool}
 use Rattle.spirv_words.specs.Values.{Word as AWord}
 use Rattle.spirv_emit.specs.Joins.{always}

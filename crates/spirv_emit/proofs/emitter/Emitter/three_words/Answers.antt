@@ -1,5 +1,5 @@
 use Rattle.std.proofs.Common.{refl, [], ◌∷◌}
-use Rattle.spirv_words.specs.Roles.{AWord, ATruth, APair}
+use Rattle.spirv_words.specs.Roles.{AWord}
 use Rattle.spirv_words.specs.Operations.{three}
 use Rattle.spirv_emit.proofs.Forms.{fits_row, three_gives}
 use Rattle.spirv_emit.proofs.emitter.Emitter.three_words.Goals as goal

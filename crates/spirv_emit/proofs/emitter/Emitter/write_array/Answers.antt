@@ -1,4 +1,4 @@
-use Rattle.std.proofs.Common.{◌+◌, ◌≤◌, arith}
+use Rattle.std.proofs.Common.{arith}
 use Rattle.shader_tree.specs.Costs.{words_in, ids_in}
 use Rattle.shader_tree.specs.Terms.{term_at}
 use Rattle.spirv_emit.proofs.LaneWrites.{arrays_alter}
