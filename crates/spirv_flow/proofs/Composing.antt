@@ -16,7 +16,7 @@ use Rattle.spirv_emit.specs.declared.emitter.Emitter.{Emitter as Emission}
 use Rattle.spirv_emit.specs.Growing.{Grows, Completes}
 use Rattle.spirv_emit.specs.Lanes.{Site}
 use Rattle.spirv_emit.specs.Blocks.{Ends, Begins as BeginsBlock}
-use Rattle.spirv_emit.specs.Steps.{Takes}
+use Rattle.spirv_emit.specs.Steps.{Takes, TakesRow}
 use Rattle.spirv_flow.specs.Layout.{label}
 use Rattle.spirv_flow.specs.Lowers.{Written, times, AtMost}
 
@@ -79,6 +79,7 @@ pub record IsGrowth : Type 0 where
   pub on : (a b c : Emission) (x y : List Instr) → Grows a b x → Grows b c y → Grows a c (x ++ y)
   pub back : (a b : Emission) (x : List Instr) (z : Site) → Grows a b x → Completes b z → Completes a z
   pub taken : (a b : Emission) (r : ℕ) → Takes a b r → Grows a b []
+  pub row : (a b : Emission) (first count : ℕ) → TakesRow a b first count → Grows a b []
 
 module _ (growth : IsGrowth) where
   pub written_on : (a b c : Emission) (x y : List Instr) → Written a b x → Written b c y → Written a c (x ++ y)

@@ -18,7 +18,7 @@ use Rattle.spirv_emit.specs.Growing.{Grows, Completes}
 use Rattle.spirv_emit.specs.Lanes.{Site}
 use Rattle.spirv_emit.specs.Values.{type_of_term}
 use Rattle.spirv_emit.specs.Blocks.{Ends, Begins}
-use Rattle.spirv_emit.specs.Steps.{Takes, Named}
+use Rattle.spirv_emit.specs.Steps.{Takes, TakesRow, Named}
 use Rattle.spirv_flow.specs.Layout.{Layout, Straight, Both, Guarded, Chosen, Looped, Switched, CaseAt, DefaultAt, Breaks, Continues, Returns, label, branch, merge, loop_merge, choose, leave, switch, cases, default, first_of, pairs, code_of}
 use Rattle.spirv_flow.specs.Lowering.{IsBody}
 use Rattle.spirv_flow.specs.Pieces.{Always}
@@ -511,15 +511,9 @@ module _ (growth : IsGrowth) where
       }
 
   -- A SWITCH. The labels of its cases were taken in a row.
-  pub record TakesRow (old new : Emission) (first count : ℕ) : Type 0 where
-    pub grows : Grows old new []
-    pub first' : first ≡ next_of old
-    pub next : next_of new ≡ first + count
-    pub kept : new.kept ≡ old.kept
-
   written_row : (a b : Emission) (first count : ℕ) → TakesRow a b first count → Written a b []
   written_row a b first count h = record {
-    grows = h.grows;
+    grows = growth.row a b first count h;
     known = λ z w globals known cg ck kept. record { typed = tt; kept = subst (λ t. CoversKept z.names t known) (sym h.kept) kept };
   }
 
@@ -625,7 +619,7 @@ module _ (growth : IsGrowth) where
             (times_results id c1 back) b1 (piece_once e9 e10 back body.flush.piece.written.grows body.flush.piece.plain id) in
             let a1 = piece_once e0 e2 front f.piece.written.grows f.piece.plain id in
             any_marks id n0 (next_of e12) out 0 all (subst (λ k. AtMost id n0 k 0 0 all) (sym end)
-            (row_labels id n0 n2 n10 i m first (marks x) tf tb all ti.result (tm.result ∙ ti.next) (omega (arith, row.first', tm.next, ti.next))
+            (row_labels id n0 n2 n10 i m first (marks x) tf tb all ti.result (tm.result ∙ ti.next) (omega (arith, row.result, tm.next, ti.next))
             f.piece.written.grows.next
             (omega (arith, start, lowered.written.grows.next, body.flush.piece.written.grows.next))
             (omega (arith, times_results id front all_code, times_results id code last)) a1 b2));
