@@ -99,7 +99,7 @@ left_is Nop k i h = both_all Nop k i
 left_is other k i h = absurd (false≢true h)
 
 -- THE COMPONENTS that are written
-written_components : (kind : Kind) (select : Select) → AreComponents (written_by kind select)
+pub written_components : (kind : Kind) (select : Select) → AreComponents (written_by kind select)
 written_components kind.Null select = (tt, tt)
 written_components other select = components (in_mask select)
 

@@ -1,6 +1,7 @@
 pub mod Affording
 pub mod Basics
 pub mod Begun
+pub mod Bounded
 pub mod Cells
 pub mod Checked
 pub mod Computed
@@ -21,4 +22,5 @@ pub mod Sources
 pub mod Sums
 pub mod Targets
 pub mod Totals
+pub mod WordIndices
 pub mod Writing

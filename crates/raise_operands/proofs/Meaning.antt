@@ -48,7 +48,7 @@ source_is p s o t k a c h r l f e =
     source_value p s o t h.spaces k a c r l (index_lit p s o h.spaces h.constants h.setting h.registers a r) f
     (ap (λ q. cell q (writes.target (context p s o) a) (selected a.select c)) e)
 
-four_below : (x y z w c : ℕ) → x < 2 ^ 32 → y < 2 ^ 32 → z < 2 ^ 32 → w < 2 ^ 32 → of_four x y z w c < 2 ^ 32
+pub four_below : (x y z w c : ℕ) → x < 2 ^ 32 → y < 2 ^ 32 → z < 2 ^ 32 → w < 2 ^ 32 → of_four x y z w c < 2 ^ 32
 four_below x y z w c h j k l = first (nat_eq c 0)
   where
     third : (b : Bool) → (if b then z else w) < 2 ^ 32

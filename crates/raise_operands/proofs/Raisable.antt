@@ -27,10 +27,10 @@ use Rattle.raise_operands.proofs.Checked.{names, few_declared, few_temps, few_el
 use Rattle.raise_operands.proofs.Lengths.{each_operand, count_is, is_long, in_range, types_taken}
 
 -- WORDS, one by one
-abbrev Below : List ℕ → Type 0
+abbrev pub Below : List ℕ → Type 0
 Below ws = Each (λ w. w < 2 ^ 32) ws
 
-below : (ws : List ℕ) → AreWords ws → Below ws
+pub below : (ws : List ℕ) → AreWords ws → Below ws
 below [] h = tt
 below (w ∷ ws) h = (h 0, below ws (λ n. h (suc n)))
 
@@ -39,11 +39,11 @@ are_words [] h n = omega arith
 are_words (w ∷ ws) h zero = h.0
 are_words (w ∷ ws) h (suc n) = are_words ws h.1 n
 
-below_left : (xs ys : List ℕ) → Below (xs ++ ys) → Below xs
+pub below_left : (xs ys : List ℕ) → Below (xs ++ ys) → Below xs
 below_left [] ys h = tt
 below_left (x ∷ xs) ys h = (h.0, below_left xs ys h.1)
 
-below_right : (xs ys : List ℕ) → Below (xs ++ ys) → Below ys
+pub below_right : (xs ys : List ℕ) → Below (xs ++ ys) → Below ys
 below_right [] ys h = h
 below_right (x ∷ xs) ys h = below_right xs ys h.1
 

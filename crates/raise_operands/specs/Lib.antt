@@ -1,6 +1,7 @@
 pub mod Building
 pub mod CostExamples
 pub mod ExampleParts
+pub mod Bounds
 pub mod Examples
 pub mod Folding
 pub mod Laws

@@ -4,11 +4,13 @@ ghost use Rattle.tpf_decode.specs.Opcodes.{meaning_of};
 ghost use Rattle.tpf_decode.specs.Profiles.{Base};
 ghost use Rattle.tpf_program.specs.declared.instruction.Instruction.{Instruction};
 ghost use Rattle.tpf_program.specs.Program.{Shader};
+ghost use Rattle.raise_operands.specs.Bounds.{BoundLaws};
 ghost use Rattle.raise_operands.specs.Laws.{CountLaws, GrowingLaws, OperandCostLaws, OperandLaws, PlainLaws, ProgramLaws, ReadingLaws, RunLaws};
 ghost use Rattle.raise_operands.specs.Raises.{IsChecked, IsRaisable, IsScalar, Raises, RaisesScalar, is_computed};
 ghost use Rattle.raise_operands.specs.Raising.{scalar_front, scalar_word, statement_of};
 
 use tpf_program::spelled_laws;
+use word_base::result_laws;
 
 /// What a program that breaks no rule gives, for the proofs of callers: its instructions that compute
 /// can be raised, and so can the numbers that control flow reads. It does nothing when it runs.
@@ -75,4 +77,13 @@ pub fn program_laws()
     ensures { ProgramLaws }
 {
     spelled_laws();
+}
+
+/// What keeps within bounds: literals are words, words of the registers r# stand at literal indices, and
+/// of the scratch words the first few alone get a value. It does nothing when it runs.
+pub fn bound_laws()
+    ensures { BoundLaws }
+{
+    program_laws();
+    result_laws();
 }

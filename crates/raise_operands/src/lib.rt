@@ -2,9 +2,10 @@
 //!
 //! What an instruction is raised to is a term; the definitions stand in `specs/`: `Folding` for words
 //! that are added, computed and chosen, `Vectors` for operands and their indices, `Raising` for sources,
-//! destinations and the statement of an instruction that computes, and `Raises` for what it owes. The
-//! code builds the terms of operands: `Building` says what its values, operands and statements stand for
-//! while the tree grows, and `Laws` what proofs of callers cite.
+//! destinations and the statement of an instruction that computes, `Raises` for what it owes, and
+//! `Bounds` for the bounds that it keeps. The code builds the terms of operands: `Building` says what its
+//! values, operands and statements stand for while the tree grows, and `Laws` what proofs of callers
+//! cite.
 #![tactic(auto)]
 
 mod index;
@@ -19,8 +20,8 @@ mod vector;
 
 pub use index::operand as begin_operand;
 pub use laws::{
-    count_laws, growing_laws, operand_cost_laws, operand_laws, plain_laws, program_laws,
-    raisable_laws, raised_laws, reading_laws, run_laws,
+    bound_laws, count_laws, growing_laws, operand_cost_laws, operand_laws, plain_laws,
+    program_laws, raisable_laws, raised_laws, reading_laws, run_laws,
 };
 pub use operand::{Kept, Operand, Operands, Place, source};
 pub use operands::begin;

@@ -1,6 +1,6 @@
-use Rattle.std.proofs.Common.{refl, sym, ap, ◌∙◌}
+use Rattle.std.proofs.Common.{refl, ap, ◌∙◌}
 use Rattle.shader_tree.specs.Terms.{term_at}
-use Rattle.raise_operands.specs.Building.{CanWrite, known_target, write_at, write_nodes}
+use Rattle.raise_operands.specs.Building.{write_at}
 use Rattle.raise_operands.specs.Vectors.{spaces_of}
 use Rattle.raise_operands.proofs.Growing.{as_step}
 use Rattle.raise_operands.proofs.Targets.{can_write, write_is}
