@@ -1,4 +1,6 @@
 pub mod Affording
+pub mod Enough
+pub mod Bounding
 pub mod Fronts
 pub mod Given
 pub mod Growing
@@ -14,3 +16,4 @@ pub mod Rooms
 pub mod Spending
 pub mod Whole
 pub mod Working
+pub mod Worked

@@ -30,7 +30,7 @@ nil2 : {X : Type 0} (xs ys : List X) → xs ≡ [] → ys ≡ [] → xs ++ ys �
 nil2 xs ys h k = ap (λ zs. zs ++ ys) h ∙ k
 
 -- A TERM WITHOUT EVENTS changes no room, and a statement without events and control flow has an empty shape.
-quiet_changed : (x : Term) → holds_no is_event x ≡ true → changed_in x ≡ []
+pub quiet_changed : (x : Term) → holds_no is_event x ≡ true → changed_in x ≡ []
 quiet_changed (term.Read space a) h = quiet_changed a h
 quiet_changed (term.One op a) h = quiet_changed a h
 quiet_changed (term.Quotient a by) h = quiet_changed a h

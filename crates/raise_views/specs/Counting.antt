@@ -47,3 +47,15 @@ parts_nodes other way os = 0
 -- what writes its words
 abbrev pub results_nodes : Meaning → Given → Operands → ℕ
 results_nodes m given os = if has_result m then 4 * (given_nodes given + 1) + writes_nodes (known_target os.o0) else 0
+
+-- how many nodes a word that an instruction gives takes at most: a step down subtracts
+abbrev pub given_most : Meaning → ℕ
+given_most Consumes = 3
+given_most other = 1
+
+-- the work of an instruction whose operands are begun: it keeps its address and makes its events, and writes its words
+abbrev pub events_nodes : Meaning → Way → Operands → ℕ
+events_nodes m way os = kept_nodes m os + parts_nodes m way os
+
+abbrev pub work_nodes : Meaning → Way → Given → Operands → ℕ
+work_nodes m way given os = events_nodes m way os + results_nodes m given os

@@ -1,4 +1,6 @@
+pub mod CostExamples
 pub mod Counting
+pub mod Examples
 pub mod Giving
 pub mod Guarding
 pub mod Guards
