@@ -37,7 +37,7 @@ joined : {S : Type 0} (step : S → Turn S) (n : ℕ) (s t : S) (m : ℕ) (u : S
 joined step zero s t m u g h = record { n = m; goes = subst (λ x. Goes step m x u) (sym g) h }
 joined step (suc n) s t m u g h = let r = joined step n g.0 t m u g.2 h in record { n = suc r.n; goes = (g.0, g.1, r.goes) }
 
-module _ (p : Shader) (nested : IsNested p) (g : Spaces) (setting : Setting) (parts : Parts) (unmarked : AreUnmarked parts) (last : List Link)
+module _ (p : Shader) (nested : IsNested p) (g : Spaces) (setting : Setting) (parts : Parts) (unmarked : AreUnmarked p.instructions parts) (last : List Link)
     (r : Registers) (scratch : ℕ → ℕ) (turns : ℕ)
     (answers : List ℕ) where
   abbrev k : Context
@@ -153,7 +153,8 @@ module _ (p : Shader) (nested : IsNested p) (g : Spaces) (setting : Setting) (pa
       (next (at (Run (term.Switch (parts.word opening) (raised parts body)) ∷ c) l.1) (at (switched w (raised parts body) c) l.1)
       (ap (λ v. on_word v (λ w. Silent (at (switched w (raised parts body) c) l.1))) l.4) false turn
       (by_spot l.1 (switched w (raised parts body) c) (switched_spot w frames opening body end)
-      (switch_chained parts last unmarked w (where_in frames) frames opening body end (stood_at frames (Switch opening body end) whole).sound)))
+      (switch_chained parts last p.instructions unmarked w frames opening body end
+      (stood p.instructions frames (Switch opening body end) (is_spot p nested frames (Switch opening body end) whole)))))
 
   -- A BREAK, A CONTINUE
   break_on : (frames : List Frame) (s : Statement) (left : ℕ → ℕ) → (where_in frames).leaves ≡ true
@@ -248,7 +249,7 @@ module _ (p : Shader) (nested : IsNested p) (g : Spaces) (setting : Setting) (pa
   advances_at (AtEnd (InSwitch opening end ∷ frames) s') h m w s =
       (1, scratch, (at (links parts last frames (Switch opening s' end)) scratch, refl, refl))
 
-pub advances : (p : Shader) (nested : IsNested p) (g : Spaces) (setting : Setting) (parts : Parts) (unmarked : AreUnmarked parts) (last : List Link)
+pub advances : (p : Shader) (nested : IsNested p) (g : Spaces) (setting : Setting) (parts : Parts) (unmarked : AreUnmarked p.instructions parts) (last : List Link)
     (x : SpotState) (scratch : ℕ → ℕ) (turns : ℕ)
     → is_control x.spot ≡ true → moved x.spot ≡ None → whole_of x.spot ≡ nested.front
     → ((i : Instruction) → scalar_at x.spot ≡ Some i → Serves p g setting parts x.registers i)

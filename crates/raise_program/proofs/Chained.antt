@@ -1,6 +1,6 @@
 -- Where the lane of the list goes on and where the lane of the tree goes on: the chains at the spots.
-use Rattle.std.proofs.Common.{◌≡◌, ℕ, Bool, true, false, List, [], ◌∷◌, Option, Some, None, refl, sym, ap, ◌∙◌, arith}
-use Rattle.std.specs.Prelude.{nat_eq, if◌then◌else◌, ⊤, unwrap_or}
+use Rattle.std.proofs.Common.{◌≡◌, ℕ, Bool, true, false, ◌+◌, List, [], ◌∷◌, ◌++◌, Option, Some, None, refl, sym, ap, ◌∙◌, arith}
+use Rattle.std.specs.Prelude.{nat_eq, if◌then◌else◌, slice_get, ⊤, unwrap_or}
 use Rattle.std.proofs.lemmas.Bool.Decides.{nat_tests}
 use Rattle.tpf_decode.specs.Profiles.{Base}
 use Rattle.tpf_decode.specs.Opcodes.{meaning_of}
@@ -12,10 +12,12 @@ use Rattle.tpf_program.specs.Nesting.{is_label}
 use Rattle.shader_tree.specs.Chains.{Link, Again, Out, push, behind_mark, switched, left, renewed, or_else}
 use Rattle.shader_tree.specs.Terms.{Term}
 use Rattle.shader_tree.specs.Terms as term
-use Rattle.shader_check.specs.Statements.{Statement, Nothing, Then, Plain, If, IfElse, Loop, Switch, Label, Where, in_switch, IsSound}
-use Rattle.raise_program.specs.Spots.{Frame, Before, Behind, InIf, InThen, InElse, InLoop, InSwitch}
+use Rattle.shader_check.specs.Statements.{Statement, Nothing, Then, Plain, If, IfElse, Loop, Switch, Label, Where, flattened, stands as stands_there}
+use Rattle.raise_program.specs.Spots.{Frame, Before, Behind, InIf, InThen, InElse, InLoop, InSwitch, place_in, where_in}
 use Rattle.raise_program.specs.SpotLane.{Spot, AtBegin, AtEnd, moved, left_spot, renewed_spot, or_spot, label_spot, switched_spot}
-use Rattle.raise_program.specs.Raised.{Parts, AreUnmarked, alone, raised, links, chain_of, chain_of_any}
+use Rattle.raise_program.specs.Raised.{Parts, AreUnmarked, goes_on, alone, raised, links, chain_of, chain_of_any}
+use Rattle.raise_program.proofs.Places.{get_at}
+use Rattle.raise_program.proofs.Frames.{Stood, stands}
 
 left_push : (t : Term) (k : List Link) → left (push t k) ≡ left k
 left_push (term.Then a b) k = left_push a (push b k) ∙ left_push b k
@@ -122,45 +124,6 @@ module _ (parts : Parts) (last : List Link) where
       (i : Instruction) (k : List Link) → means Base is_label i ≡ true → behind_mark mark (raised parts (Label i)) k ≡
       (if test i then Some k else None)
 
-  alone_unmarked : AreUnmarked parts → (mark : Option ℕ) (m : Option Meaning) (i : Instruction) (k : List Link) → behind_mark mark (alone parts m i) k
-      ≡ None
-  alone_unmarked u mark None i k = u.plain mark i k
-  alone_unmarked u mark (Some meaning.Break) i k = refl
-  alone_unmarked u mark (Some meaning.BreakIf) i k = ap (λ o. or_else o None) (u.front mark i (push (term.Guard (parts.truth i) term.Break) k))
-  alone_unmarked u mark (Some meaning.Continue) i k = refl
-  alone_unmarked u mark (Some meaning.ContinueIf) i k = ap (λ o. or_else o None) (u.front mark i (push (term.Guard (parts.truth i) term.Continue) k))
-  alone_unmarked u mark (Some meaning.Return) i k = refl
-  alone_unmarked u mark (Some meaning.ReturnIf) i k = ap (λ o. or_else o None) (u.front mark i (push (term.Guard (parts.truth i) term.Return) k))
-  alone_unmarked u mark (Some m) i k = u.plain mark i k
-
-  label_chained : AreUnmarked parts → (test : Instruction → Bool) (mark : Option ℕ) → IsMark test mark → (w : Where) (frames : List Frame)
-      (s : Statement) → IsSound w s
-      → behind_mark mark (raised parts s) (links parts last frames s) ≡ chain_of_any parts last (label_spot test frames s)
-  label_chained u test mark m w frames Nothing h = refl
-  label_chained u test mark m w frames (Then first next) h =
-      mark_or (label_spot test (Before next ∷ frames) first) (label_spot test (Behind first ∷ frames) next)
-      (behind_mark mark (raised parts first) (push (raised parts next) (links parts last frames (Then first next))))
-      (behind_mark mark (raised parts next) (links parts last frames (Then first next)))
-      (label_chained u test mark m w (Before next ∷ frames) first h.0) (label_chained u test mark m w (Behind first ∷ frames) next h.1)
-  label_chained u test mark m w frames (Plain i) h = alone_unmarked u mark (meaning_of Base i.code) i (links parts last frames (Plain i))
-  label_chained u test mark m w frames (If opening body end) h =
-      ap (λ o. or_else o None)
-      (u.front mark opening (push (term.Guard (parts.truth opening) (raised parts body)) (links parts last frames (If opening body end))))
-  label_chained u test mark m w frames (IfElse opening body middle other end) h =
-      ap (λ o. or_else o None)
-      (u.front mark opening (push (term.If (parts.truth opening) (raised parts body) (raised parts other))
-      (links parts last frames (IfElse opening body middle other end))))
-  label_chained u test mark m w frames (Loop opening body end) h = refl
-  label_chained u test mark m w frames (Switch opening body end) h =
-      ap (λ o. or_else o None)
-      (u.front mark opening (push (term.Switch (parts.word opening) (raised parts body)) (links parts last frames (Switch opening body end))))
-  label_chained u test mark m w frames (Label i) h = m i (links parts last frames (Label i)) h.0 ∙ by_test (test i)
-    where
-      by_test : (b : Bool) → (if b then Some (links parts last frames (Label i)) else None) ≡ chain_of_any parts last
-          (if b then Some (AtEnd frames (Label i)) else None)
-      by_test true = refl
-      by_test false = refl
-
   default_mark : IsMark (means Base is_default) None
   default_mark i k h = by_test (means Base is_default i)
     where
@@ -180,23 +143,86 @@ module _ (parts : Parts) (last : List Link) where
       by_meaning (Some meaning.Default) h = refl
       by_meaning (Some m) h = absurd (cc)
 
-  pub switch_chained : AreUnmarked parts → (w : ℕ) (r : Where) (frames : List Frame) (opening : Instruction) (body : Statement) (end : Instruction)
-      → IsSound r (Switch opening body end)
-      → Some (switched w (raised parts body) (links parts last frames (Switch opening body end))) ≡ chain_of_any parts last
-      (switched_spot w frames opening body end)
-  switch_chained u w r frames opening body end h =
-      let f = InSwitch opening end ∷ frames in
-      let k = links parts last frames (Switch opening body end) in
-      let c = behind_mark (Some w) (raised parts body) (Out ∷ k) in
-      let d = behind_mark None (raised parts body) (Out ∷ k) in
-      let rest = Some (AtEnd frames (Switch opening body end)) in
-      unwrapped c d k
-      ∙ mark_or (label_spot (is_case_of Base w) f body) (or_spot (label_spot (means Base is_default) f body) rest) c (or_else d (Some k))
-      (label_chained u (is_case_of Base w) (Some w) (case_mark w) (in_switch r) f body h.3)
-      (mark_or (label_spot (means Base is_default) f body) rest d (Some k) (label_chained u (means Base is_default) None default_mark (in_switch r) f
-      body h.3) refl)
-    where
-      unwrapped : (c d : Option (List Link)) (k : List Link) → Some (unwrap_or (or_else c d) k) ≡ or_else c (or_else d (Some k))
-      unwrapped None None k = refl
-      unwrapped None (Some x) k = refl
-      unwrapped (Some x) d k = refl
+  module _ (code : List Instruction) (u : AreUnmarked code parts) where
+    first_at : (frames : List Frame) (s : Statement) (i : Instruction) (rest : List Instruction) → Stood code frames s → flattened s ≡ i ∷ rest
+        → slice_get code (place_in frames + 0) ≡ Some i
+    first_at frames s i rest h e = get_at code (place_in frames) (flattened s) 0 i (stands code frames s h).here (ap (λ l. slice_get l 0) e)
+
+    front_unmarked : (frames : List Frame) (s : Statement) (i : Instruction) (rest : List Instruction) (mark : Option ℕ) (k : List Link)
+        → Stood code frames s → flattened s ≡ i ∷ rest → behind_mark mark (parts.front i) k ≡ None
+    front_unmarked frames s i rest mark k h e = u.front (place_in frames + 0) i (first_at frames s i rest h e) mark k
+
+    alone_unmarked : (n : ℕ) (i : Instruction) → slice_get code n ≡ Some i → (w : Where) (m : Option Meaning) → meaning_of Base i.code ≡ m
+        → stands_there w m ≡ true → (mark : Option ℕ) (k : List Link) → behind_mark mark (alone parts m i) k ≡ None
+    alone_unmarked n i at w None e h mark k = absurd (cc)
+    alone_unmarked n i at w (Some meaning.Break) e h mark k = refl
+    alone_unmarked n i at w (Some meaning.BreakIf) e h mark k =
+        ap (λ o. or_else o None) (u.front n i at mark (push (term.Guard (parts.truth i) term.Break) k))
+    alone_unmarked n i at w (Some meaning.Continue) e h mark k = refl
+    alone_unmarked n i at w (Some meaning.ContinueIf) e h mark k =
+        ap (λ o. or_else o None) (u.front n i at mark (push (term.Guard (parts.truth i) term.Continue) k))
+    alone_unmarked n i at w (Some meaning.Return) e h mark k = refl
+    alone_unmarked n i at w (Some meaning.ReturnIf) e h mark k =
+        ap (λ o. or_else o None) (u.front n i at mark (push (term.Guard (parts.truth i) term.Return) k))
+    alone_unmarked n i at w (Some meaning.If) e h mark k = absurd (cc)
+    alone_unmarked n i at w (Some meaning.Else) e h mark k = absurd (cc)
+    alone_unmarked n i at w (Some meaning.EndIf) e h mark k = absurd (cc)
+    alone_unmarked n i at w (Some meaning.Loop) e h mark k = absurd (cc)
+    alone_unmarked n i at w (Some meaning.EndLoop) e h mark k = absurd (cc)
+    alone_unmarked n i at w (Some meaning.Switch) e h mark k = absurd (cc)
+    alone_unmarked n i at w (Some meaning.Case) e h mark k = absurd (cc)
+    alone_unmarked n i at w (Some meaning.Default) e h mark k = absurd (cc)
+    alone_unmarked n i at w (Some meaning.EndSwitch) e h mark k = absurd (cc)
+    alone_unmarked n i at w (Some m) e h mark k = u.plain n i at (ap goes_on e) mark k
+
+    label_chained : (test : Instruction → Bool) (mark : Option ℕ) → IsMark test mark → (frames : List Frame) (s : Statement) → Stood code frames s
+        → behind_mark mark (raised parts s) (links parts last frames s) ≡ chain_of_any parts last (label_spot test frames s)
+    label_chained test mark m frames Nothing h = refl
+    label_chained test mark m frames (Then first next) h =
+        mark_or (label_spot test (Before next ∷ frames) first) (label_spot test (Behind first ∷ frames) next)
+        (behind_mark mark (raised parts first) (push (raised parts next) (links parts last frames (Then first next))))
+        (behind_mark mark (raised parts next) (links parts last frames (Then first next)))
+        (label_chained test mark m (Before next ∷ frames) first h) (label_chained test mark m (Behind first ∷ frames) next h)
+    label_chained test mark m frames (Plain i) h =
+        alone_unmarked (place_in frames + 0) i (first_at frames (Plain i) i [] h refl) (where_in frames) (meaning_of Base i.code) refl
+        (stands code frames (Plain i) h).sound mark (links parts last frames (Plain i))
+    label_chained test mark m frames (If opening body end) h =
+        ap (λ o. or_else o None)
+        (front_unmarked frames (If opening body end) opening (flattened body ++ end ∷ []) mark
+        (push (term.Guard (parts.truth opening) (raised parts body)) (links parts last frames (If opening body end))) h refl)
+    label_chained test mark m frames (IfElse opening body middle other end) h =
+        ap (λ o. or_else o None)
+        (front_unmarked frames (IfElse opening body middle other end) opening (flattened body ++ middle ∷ (flattened other ++ end ∷ [])) mark
+        (push (term.If (parts.truth opening) (raised parts body) (raised parts other)) (links parts last frames (IfElse opening body middle other end)))
+        h refl)
+    label_chained test mark m frames (Loop opening body end) h = refl
+    label_chained test mark m frames (Switch opening body end) h =
+        ap (λ o. or_else o None)
+        (front_unmarked frames (Switch opening body end) opening (flattened body ++ end ∷ []) mark
+        (push (term.Switch (parts.word opening) (raised parts body)) (links parts last frames (Switch opening body end))) h refl)
+    label_chained test mark m frames (Label i) h = m i (links parts last frames (Label i)) (stands code frames (Label i) h).sound.0 ∙ by_test (test i)
+      where
+        by_test : (b : Bool) → (if b then Some (links parts last frames (Label i)) else None) ≡ chain_of_any parts last
+            (if b then Some (AtEnd frames (Label i)) else None)
+        by_test true = refl
+        by_test false = refl
+
+    pub switch_chained : (w : ℕ) (frames : List Frame) (opening : Instruction) (body : Statement) (end : Instruction)
+        → Stood code frames (Switch opening body end)
+        → Some (switched w (raised parts body) (links parts last frames (Switch opening body end))) ≡ chain_of_any parts last
+        (switched_spot w frames opening body end)
+    switch_chained w frames opening body end h =
+        let f = InSwitch opening end ∷ frames in
+        let k = links parts last frames (Switch opening body end) in
+        let c = behind_mark (Some w) (raised parts body) (Out ∷ k) in
+        let d = behind_mark None (raised parts body) (Out ∷ k) in
+        let rest = Some (AtEnd frames (Switch opening body end)) in
+        unwrapped c d k
+        ∙ mark_or (label_spot (is_case_of Base w) f body) (or_spot (label_spot (means Base is_default) f body) rest) c (or_else d (Some k))
+        (label_chained (is_case_of Base w) (Some w) (case_mark w) f body h)
+        (mark_or (label_spot (means Base is_default) f body) rest d (Some k) (label_chained (means Base is_default) None default_mark f body h) refl)
+      where
+        unwrapped : (c d : Option (List Link)) (k : List Link) → Some (unwrap_or (or_else c d) k) ≡ or_else c (or_else d (Some k))
+        unwrapped None None k = refl
+        unwrapped None (Some x) k = refl
+        unwrapped (Some x) d k = refl

@@ -41,7 +41,7 @@ module _ (code : List Instruction) (test : Instruction → Bool) (marks : Marks 
   abbrev pub Innermost : ℕ → ℕ → Type 0
   Innermost at n = (m : ℕ) → at ≤ m → m ≤ at + n → last_below (opens_around m) at ≡ Some q
 
-  at_place : (at : ℕ) (i : Instruction) → slice_get code at ≡ Some i → last_below (opens_around at) at ≡ Some q → direct_in at ≡ test i
+  pub at_place : (at : ℕ) (i : Instruction) → slice_get code at ≡ Some i → last_below (opens_around at) at ≡ Some q → direct_in at ≡ test i
   at_place at i h k =
       let z : nat_eq q q ≡ true = grind (arith, nat_tests) in
       ap (λ x. has test x && is_same (innermost Base false is_opening code at) (Some q)) h
@@ -51,12 +51,12 @@ module _ (code : List Instruction) (test : Instruction → Bool) (marks : Marks 
       and_true_last true = refl
       and_true_last false = refl
 
-  not_test : (at : ℕ) (i : Instruction) → slice_get code at ≡ Some i → test i ≡ false → direct_in at ≡ false
+  pub not_test : (at : ℕ) (i : Instruction) → slice_get code at ≡ Some i → test i ≡ false → direct_in at ≡ false
   not_test at i h k =
       ap (λ x. has test x && is_same (innermost Base false is_opening code at) (Some q)) h
       ∙ ap (λ b. b && is_same (innermost Base false is_opening code at) (Some q)) k
 
-  not_same : (m : ℕ) → ((n : ℕ) → innermost Base false is_opening code m ≡ Some n → n ≡ q → ⊥) → direct_in m ≡ false
+  pub not_same : (m : ℕ) → ((n : ℕ) → innermost Base false is_opening code m ≡ Some n → n ≡ q → ⊥) → direct_in m ≡ false
   not_same m h = and_false (has test (slice_get code m)) (is_same (innermost Base false is_opening code m) (Some q))
       (by_found (innermost Base false is_opening code m) refl)
     where
@@ -69,7 +69,7 @@ module _ (code : List Instruction) (test : Instruction → Bool) (marks : Marks 
           by_test false k = k
 
   -- a deeper construct has nothing that stands directly in q
-  deeper : (w : Where) (at : ℕ) (s : Statement) (o : Instruction) → IsSound w s → Holds code at (flattened s) → opening_of s ≡ Some o
+  pub deeper : (w : Where) (at : ℕ) (s : Statement) (o : Instruction) → IsSound w s → Holds code at (flattened s) → opening_of s ≡ Some o
       → size s ≡ length (inside s) + 2 → q < at
       → (m : ℕ) → at ≤ m → m < at + size s → direct_in m ≡ false
   deeper w at s o h k e l b m u v = elim (cases_lt at m) [ inl y ↦ below y | inr y ↦ let z : m ≡ at = omega (arith, u, y) in ap direct_in z ∙ here ]
@@ -136,7 +136,7 @@ module _ (code : List Instruction) (test : Instruction → Bool) (marks : Marks 
       )) b)
 
   -- nothing behind the end of q stands directly in q
-  behind_end : (c : ℕ) → close Base code q ≡ Some c → (m : ℕ) → c < m → direct_in m ≡ false
+  pub behind_end : (c : ℕ) → close Base code q ≡ Some c → (m : ℕ) → c < m → direct_in m ≡ false
   behind_end c h m l = not_same m (λ n a e. no_longer (last_holds (opens_around m) m q (a ∙ ap Some e)))
     where
       no_longer : opens_around m q ≡ true → ⊥
@@ -200,22 +200,22 @@ no_labels test w at (Switch opening body end) d h = refl
 
 module _ (code : List Instruction) where
   -- the body of a construct, and what is behind it
-  body_at : (at : ℕ) (opening : Instruction) (xs ys : List Instruction) → Holds code at (opening ∷ (xs ++ ys)) → Holds code (at + 1) xs
+  pub body_at : (at : ℕ) (opening : Instruction) (xs ys : List Instruction) → Holds code at (opening ∷ (xs ++ ys)) → Holds code (at + 1) xs
   body_at at opening xs ys h = front_at code (at + 1) xs ys (next_at code at opening (xs ++ ys) h)
 
-  behind_at : (at : ℕ) (opening : Instruction) (xs : List Instruction) (i : Instruction) (ys : List Instruction) → Holds code at
+  pub behind_at : (at : ℕ) (opening : Instruction) (xs : List Instruction) (i : Instruction) (ys : List Instruction) → Holds code at
       (opening ∷ (xs ++ (i ∷ ys)))
       → slice_get code (at + 1 + length xs) ≡ Some i
   behind_at at opening xs i ys h = first_at code (at + 1 + length xs) i ys
       (back_at code (at + 1) xs (i ∷ ys) (next_at code at opening (xs ++ (i ∷ ys)) h))
 
-  left_at : (at : ℕ) (opening : Instruction) (xs : List Instruction) (i : Instruction) (ys : List Instruction) → Holds code at
+  pub left_at : (at : ℕ) (opening : Instruction) (xs : List Instruction) (i : Instruction) (ys : List Instruction) → Holds code at
       (opening ∷ (xs ++ (i ∷ ys)))
       → length code - (at + 1) ≡ length xs + suc (length code - (at + 1) - length xs - 1)
   left_at at opening xs i ys h = omega (arith, fits_at code at (opening ∷ (xs ++ (i ∷ ys))) (omega arith) h, length-append xs (i ∷ ys))
 
   -- a body in its construct: the construct is the innermost around it
-  inner_body : (f : Frame) (frames : List Frame) (body : Statement) → place_in (f ∷ frames) ≡ place_in frames + 1 → innermost_of is_opening
+  pub inner_body : (f : Frame) (frames : List Frame) (body : Statement) → place_in (f ∷ frames) ≡ place_in frames + 1 → innermost_of is_opening
       (f ∷ frames) ≡ Some (place_in frames)
       → Stood code (f ∷ frames) body → (m : ℕ) → place_in frames + 1 ≤ m → m ≤ place_in frames + 1 + size body
       → last_below (is_around Base false is_opening code m) (place_in frames + 1) ≡ Some (place_in frames)
@@ -312,10 +312,10 @@ case_marks v = record {
 
 module _ (code : List Instruction) (frames : List Frame) (opening : Instruction) (body : Statement) (end : Instruction)
     (h : Stood code frames (Switch opening body end)) where
-  abbrev q : ℕ
+  abbrev pub q : ℕ
   q = place_in frames
 
-  closes : close Base code q ≡ Some (q + 1 + size body)
+  pub closes : close Base code q ≡ Some (q + 1 + size body)
   closes = let k = h frames (Switch opening body end) refl in close_of code (where_in frames) q (Switch opening body end) opening k.sound k.here refl
 
   label_direct : (test : Instruction → Bool) → Marks test → direct Base test code q ≡ first_label test (q + 1) body

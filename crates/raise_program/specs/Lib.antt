@@ -2,3 +2,10 @@ pub mod Spots
 pub mod SpotLane
 pub mod Raised
 pub mod Advances
+pub mod Walked
+pub mod Walking
+pub mod Counted
+pub mod Parts
+pub mod Whole
+pub mod TreeOf
+pub mod ProgramShape

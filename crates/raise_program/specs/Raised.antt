@@ -1,6 +1,6 @@
 -- The statements of a tree for the statements of a program, and the chain that is still to be run at a spot. What
 -- stands for a single instruction is given: the rules here are those of control flow.
-use Rattle.std.specs.Prelude.{◌≡◌, ℕ, if◌then◌else◌, List, [], ◌∷◌, Option, Some, None, refl}
+use Rattle.std.specs.Prelude.{◌≡◌, ℕ, if◌then◌else◌, Bool, true, false, slice_get, List, [], ◌∷◌, Option, Some, None, refl}
 use Rattle.tpf_decode.specs.Profiles.{Base}
 use Rattle.tpf_decode.specs.Opcodes.{meaning_of, opcode_table}
 use Rattle.tpf_decode.specs.declared.meaning.Meaning.{Meaning}
@@ -23,10 +23,35 @@ pub record Parts : Type 0 where
   pub truth : Instruction → Term
   pub word : Instruction → Term
 
--- No statement by itself, and none in front of a scalar, holds a label of a switch that is outside of it.
-pub record AreUnmarked (parts : Parts) : Type 0 where
-  pub plain : (mark : Option ℕ) (i : Instruction) (k : List Link) → behind_mark mark (parts.plain i) k ≡ None
-  pub front : (mark : Option ℕ) (i : Instruction) (k : List Link) → behind_mark mark (parts.front i) k ≡ None
+-- an instruction that goes on to the next
+abbrev pub goes_on : Option Meaning → Bool
+goes_on None = false
+goes_on (Some meaning.If) = false
+goes_on (Some meaning.Else) = false
+goes_on (Some meaning.EndIf) = false
+goes_on (Some meaning.Loop) = false
+goes_on (Some meaning.EndLoop) = false
+goes_on (Some meaning.Switch) = false
+goes_on (Some meaning.Case) = false
+goes_on (Some meaning.Default) = false
+goes_on (Some meaning.EndSwitch) = false
+goes_on (Some meaning.Break) = false
+goes_on (Some meaning.BreakIf) = false
+goes_on (Some meaning.Continue) = false
+goes_on (Some meaning.ContinueIf) = false
+goes_on (Some meaning.Return) = false
+goes_on (Some meaning.ReturnIf) = false
+goes_on other = true
+
+-- Of the instructions of a program no statement by itself, and none in front of a scalar, holds a label of a switch
+-- that is outside of it.
+pub record AreUnmarked (code : List Instruction) (parts : Parts) : Type 0 where
+  pub plain :
+      (n : ℕ) (i : Instruction) → slice_get code n ≡ Some i → goes_on (meaning_of Base i.code) ≡ true
+      → (mark : Option ℕ) (k : List Link) → behind_mark mark (parts.plain i) k ≡ None
+  pub front :
+      (n : ℕ) (i : Instruction) → slice_get code n ≡ Some i
+      → (mark : Option ℕ) (k : List Link) → behind_mark mark (parts.front i) k ≡ None
 
 module _ (parts : Parts) where
   -- an instruction by itself

@@ -1,23 +1,38 @@
 //! no code: what proofs above may cite
 ghost use Rattle.std.specs.Prelude.{◌≡◌, ◌++◌, ◌∷◌, ℕ, ◌+◌, List, None, Some, is_some, length, slice_get, true};
+ghost use Rattle.word_base.specs.declared.event.Event.{Event};
+ghost use Rattle.word_base.specs.Lanes.{Makes, SameLanes};
 ghost use Rattle.word_base.specs.Settings.{Setting};
 ghost use Rattle.tpf_decode.specs.Profiles.{Base};
-ghost use Rattle.tpf_program.specs.Bytecode.{step};
+ghost use Rattle.tpf_program.specs.Bytecode.{State as Standing, start, step};
 ghost use Rattle.tpf_program.specs.Program.{Shader};
 ghost use Rattle.tpf_program.specs.Values.{context};
 ghost use Rattle.tpf_program.specs.declared.instruction.Instruction.{Instruction};
 ghost use Rattle.tpf_program.specs.Ends.{around, case_of, close, close_around, else_of};
 ghost use Rattle.tpf_program.specs.Ends.{is_if, is_loop, is_loop_or_switch};
-ghost use Rattle.shader_check.specs.Statements.{If, IfElse, IsNested, IsSound, Loop, Statement, Switch, Where, flattened};
+ghost use Rattle.binding_map.specs.Bindings.{Binding};
+ghost use Rattle.binding_map.specs.Fits.{Fits, is_null_in};
+ghost use Rattle.shader_check.specs.Checked.{IsChecked as BreaksNoRule};
+ghost use Rattle.shader_check.specs.Statements.{If, IfElse, IsNested, IsSound, Loop, Statement, Switch, flattened};
 ghost use Rattle.shader_tree.specs.Chains.{Again, Link, left, push, renewed, switched};
+ghost use Rattle.shader_tree.specs.Lane.{State as TreeState, start as tree_start, step as tree_step};
 ghost use Rattle.shader_tree.specs.Terms.{Term};
 ghost use Rattle.shader_tree.specs.Values.{Spaces};
+ghost use Rattle.raise_operands.specs.Raises.{IsChecked};
+ghost use Rattle.raise_operands.specs.Vectors.{spaces_of};
+ghost use Rattle.raise_program.specs.Counted.{Counted, at_count, counted, times_back};
+ghost use Rattle.raise_program.specs.Parts.{parts_of};
 ghost use Rattle.raise_program.specs.Spots.{Frame, IsSpot, behind, filled, in_front, inside, leave_around};
 ghost use Rattle.raise_program.specs.Spots.{loop_around, opening_of, place_in, place_of_label, size, where_in};
 ghost use Rattle.raise_program.specs.SpotLane.{Follows, IsMoved, Spot, SpotState, at_place, in_list, left_spot};
 ghost use Rattle.raise_program.specs.SpotLane.{moved, place_of, renewed_spot, spot_step, switched_spot, whole_of};
 ghost use Rattle.raise_program.specs.Advances.{Advances, Serves, is_control, scalar_at};
 ghost use Rattle.raise_program.specs.Raised.{AreUnmarked, Parts, chain_of, chain_of_any, links, raised};
+
+use raise_operands::{program_laws, raisable_laws, raised_laws};
+use raise_views::{guardable_laws, guarded_laws};
+use shader_check::checked_laws;
+use tpf_program::bytecode_laws;
 
 /// Where the instructions of a nested program lead, for the proofs of callers: each place is a sum of
 /// how many instructions statements have. It does nothing when it runs.
@@ -100,9 +115,9 @@ pub fn chain_laws()
         → renewed_spot frames s ≡ Some y
         → (body : Term) × (k : List Link) × (renewed (links parts last frames s) ≡ Some (Again body ∷ k))
         × (chain_of parts last y ≡ push body (Again body ∷ k)) }
-    ensures switches { (parts : Parts) (last : List Link) (w : ℕ) (place : Where) (frames : List Frame)
-        (opening : Instruction) (body : Statement) (end : Instruction) → AreUnmarked parts
-        → IsSound place (Switch opening body end)
+    ensures switches { (parts : Parts) (last : List Link) (w : ℕ) (code : List Instruction) (frames : List Frame)
+        (opening : Instruction) (body : Statement) (end : Instruction) → AreUnmarked code parts
+        → IsSpot code frames (Switch opening body end)
         → Some (switched w (raised parts body) (links parts last frames (Switch opening body end)))
         ≡ chain_of_any parts last (switched_spot w frames opening body end) }
 {}
@@ -117,8 +132,35 @@ pub fn chain_laws()
 /// scalar which the instruction reads leads to its test and its word.
 pub fn advance_laws()
     ensures { (p : Shader) (nested : IsNested p) (g : Spaces) (setting : Setting) (parts : Parts) (last : List Link)
-        (x : SpotState) (scratch : ℕ → ℕ) (turns : ℕ) → AreUnmarked parts
+        (x : SpotState) (scratch : ℕ → ℕ) (turns : ℕ) → AreUnmarked p.instructions parts
         → is_control x.spot ≡ true → moved x.spot ≡ None → whole_of x.spot ≡ nested.front
         → ((i : Instruction) → scalar_at x.spot ≡ Some i → Serves p g setting parts x.registers i)
         → Advances p g setting parts last x.registers scratch turns x.spot (spot_step p setting x) }
 {}
+
+/// What the lane of a program and that of its raised tree have in common, for the proofs of callers. It
+/// does nothing when it runs.
+///
+/// Under each setting that fits the program and its bindings, and under every list of answers, the tree's
+/// lane makes the events of the program's lane, ends and spins where that one does, and is never wrong.
+/// Between the same events it begins loops anew as often as the program's lane goes back.
+pub fn raised_lane_laws()
+    ensures same { (p : Shader) (tokens : List ℕ) (bindings : List Binding) (nested : IsNested p) (setting : Setting)
+        → IsChecked p tokens → BreaksNoRule p → Fits p bindings setting
+        → SameLanes (step Base p setting) (tree_step (spaces_of p) setting) start (tree_start
+        (raised (parts_of (is_null_in bindings) p) nested.front)) }
+    ensures turns { (p : Shader) (tokens : List ℕ) (bindings : List Binding) (nested : IsNested p) (setting : Setting)
+        → IsChecked p tokens → BreaksNoRule p → Fits p bindings setting
+        → (events : List Event) (answers : List ℕ) (s : Counted Standing) (t : TreeState)
+        → Makes (counted (step Base p setting) times_back) (at_count start 0) events answers s
+        → Makes (tree_step (spaces_of p) setting) (tree_start (raised (parts_of (is_null_in bindings) p) nested.front))
+        events answers t → s.count ≡ t.turns }
+{
+    bytecode_laws();
+    checked_laws();
+    guardable_laws();
+    guarded_laws();
+    program_laws();
+    raisable_laws();
+    raised_laws();
+}
