@@ -32,3 +32,4 @@ pub mod FormLocals
 pub mod FormInstrs
 pub mod Lengths
 pub mod Listing
+mod RoomFacts

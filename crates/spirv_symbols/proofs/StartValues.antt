@@ -56,11 +56,11 @@ pub the_built_in : (x b : ℕ) → literal_in (find (decorates x decorations.Bui
 the_built_in x b = ap (λ t. literal_in (cond (t && true) (Some (instruction OpDecorate (x ∷ 11 ∷ b ∷ []))) None)) (equals x)
 
 -- SHARED MEMORY: the slot of an id stands where the id stands
-record At (x slot : ℕ) (ids slots : List ℕ) : Type 0 where
+pub record At (x slot : ℕ) (ids slots : List ℕ) : Type 0 where
   pub within : position_or_len (nat_eq x) ids < length ids
   pub slot' : slice_get slots (position_or_len (nat_eq x) ids) ≡ Some slot
 
-abbrev is_shared : ℕ → Bool
+abbrev pub is_shared : ℕ → Bool
 is_shared class = nat_eq class storage.Workgroup
 
 at_first : (x slot : ℕ) (ids slots : List ℕ) → At x slot (x ∷ ids) (slot ∷ slots)
@@ -80,7 +80,7 @@ at_further (Memory (Shared k)) i x slot es slots e h = at_later i k x slot (glob
 at_further (Memory room) i x slot es slots e h = h
 at_further s i x slot es slots e h = h
 
-shared_at : (es : List Entry) (k x slot : ℕ) → slice_get es k ≡ Some (entry (Memory (Shared slot)) x)
+pub shared_at : (es : List Entry) (k x slot : ℕ) → slice_get es k ≡ Some (entry (Memory (Shared slot)) x)
     → ((i j : ℕ) (f g : Entry) → slice_get es i ≡ Some f → slice_get es j ≡ Some g → f.id ≡ g.id → i ≡ j)
     → At x slot (globals_of is_shared es) (shared_slots es)
 shared_at [] k x slot h u = absurd (cc h)
@@ -93,7 +93,7 @@ shared_at (e ∷ es) (suc k) x slot h u =
     (⊎_elim (λ p. let z = u 0 (suc k) e (entry (Memory (Shared slot)) x) refl h (sym p.1) in absurd (omega (arith, z))) (λ p. p.0) (eqb_tells x e.id))
     (shared_at es k x slot h (λ i j f g a b d. let z = u (suc i) (suc j) f g a b d in omega (arith, z)))
 
-at_found : (x slot : ℕ) (ids slots : List ℕ) → At x slot ids slots → option_and_then (slice_get slots) (position (nat_eq x) ids) ≡ Some slot
+pub at_found : (x slot : ℕ) (ids slots : List ℕ) → At x slot ids slots → option_and_then (slice_get slots) (position (nat_eq x) ids) ≡ Some slot
 at_found x slot ids slots a =
     let e : nat_lt (position_or_len (nat_eq x) ids) (length ids) ≡ true = grind (arith, nat_tests, a.within) in rw (e) (a.slot')
 

@@ -1,13 +1,14 @@
 //! no code: what proofs above may cite
-ghost use Rattle.std.specs.Prelude.{◌≡◌, ℕ, ◌+◌, ◌*◌, ◌<◌, ◌≤◌, ◌⊎◌, List, [], ◌∷◌, ◌++◌, length, Some, true, IsTrue};
+ghost use Rattle.std.specs.Prelude.{◌≡◌, ℕ, ◌+◌, ◌*◌, ◌<◌, ◌≤◌, ◌⊎◌, List, [], ◌∷◌, ◌++◌, length, nat_eq, option_and_then, position, slice_get, Some, true, IsTrue};
 ghost use Rattle.std.specs.List.{list_all};
 ghost use Rattle.word_base.specs.Settings.{Setting};
-ghost use Rattle.spirv_words.specs.Decoration.{ArrayStride, Offset};
+ghost use Rattle.word_base.specs.declared.event.Room.TheVariants.{Shared};
+ghost use Rattle.spirv_words.specs.Decoration.{ArrayStride, Binding, DescriptorSet, Offset};
 ghost use Rattle.spirv_words.specs.Operations.{OpFunctionEnd};
 ghost use Rattle.spirv_words.specs.Text.{Instr, instruction, is_instr, words_of_code, words_of_instr};
 ghost use Rattle.spirv_words.specs.Ids.{type_of};
 ghost use Rattle.spirv_words.specs.Sorts.{sort_of};
-ghost use Rattle.spirv_words.specs.Globals.{Places, decoration, member_decoration};
+ghost use Rattle.spirv_words.specs.Globals.{Places, decoration, member_decoration, workgroup_ids};
 ghost use Rattle.spirv_words.specs.Lane.{is_glsl, machine};
 ghost use Rattle.spirv_words.specs.Operands.{is_sorted};
 ghost use Rattle.spirv_words.specs.Definitions.{has_single_definitions, has_distinct_types, has_sorts};
@@ -16,8 +17,8 @@ ghost use Rattle.spirv_words.specs.Variables.{is_variable_well, has_variables};
 ghost use Rattle.spirv_symbols.specs.declared.symbol.Access.{Access};
 ghost use Rattle.spirv_symbols.specs.declared.symbol.TypeSymbol.{TypeSymbol};
 ghost use Rattle.spirv_symbols.specs.declared.symbol.Symbol.{Symbol};
-ghost use Rattle.spirv_symbols.specs.declared.symbol.Symbol.TheVariants.{AType, Import};
-ghost use Rattle.spirv_symbols.specs.declared.row.Marks.TheVariants.{Stride, Block};
+ghost use Rattle.spirv_symbols.specs.declared.symbol.Symbol.TheVariants.{AType, Import, Memory};
+ghost use Rattle.spirv_symbols.specs.declared.row.Marks.TheVariants.{Stride, Block, Bound};
 ghost use Rattle.spirv_symbols.specs.declared.numbered.Numbered.{Numbered};
 ghost use Rattle.spirv_symbols.specs.Contexts.{Context, IsSmall};
 ghost use Rattle.spirv_symbols.specs.Rows.{row_of, needs};
@@ -27,7 +28,7 @@ ghost use Rattle.spirv_symbols.specs.Sections.{section_code, decorations_of};
 ghost use Rattle.spirv_symbols.specs.Orders.{Sorts};
 ghost use Rattle.spirv_symbols.specs.Modules.{Kind, IsReady, IsBody, HasIds, front, interface, module_code, module_of};
 ghost use Rattle.spirv_symbols.specs.ModuleWords.{head};
-ghost use Rattle.spirv_symbols.specs.Starts.{AreFound, Starts};
+ghost use Rattle.spirv_symbols.specs.Starts.{AreFound, Starts, shared_slots};
 ghost use Rattle.spirv_symbols.specs.Wants.{HasPlaces, wanted_of};
 ghost use Rattle.spirv_symbols.specs.Tables.{Table, Entry, Has, AreThere, Stands, Extends, Takes, empty_table, id_of, weight};
 
@@ -84,6 +85,23 @@ pub fn module_laws()
         (x : ℕ) (access : Access) → IsReady c t cs → IsBody body → Has t.entries s x
         → (row_of c s).marks ≡ Block access
         → member_decoration (module_code c kind t.entries cs body) x 0 Offset ≡ Some 0 }
+{}
+
+/// What holds of the variables of rooms in a module, for the proofs of callers: those that are bound have
+/// their set and binding, and those of shared memory stand in the order of the table. It does nothing when it
+/// runs.
+#[tactic(auto, using(crate::proofs::RoomFacts::sets, crate::proofs::RoomFacts::bindings))]
+pub fn room_laws()
+    ensures set { (c : Context) (kind : Kind) (t : Table) (cs : List Numbered) (body : List Instr) (s : Symbol)
+        (x set binding : ℕ) → IsReady c t cs → IsBody body → Has t.entries s x → (row_of c s).marks ≡ Bound set binding
+        → decoration (module_code c kind t.entries cs body) x DescriptorSet ≡ Some set }
+    ensures binding { (c : Context) (kind : Kind) (t : Table) (cs : List Numbered) (body : List Instr) (s : Symbol)
+        (x set binding : ℕ) → IsReady c t cs → IsBody body → Has t.entries s x → (row_of c s).marks ≡ Bound set binding
+        → decoration (module_code c kind t.entries cs body) x Binding ≡ Some binding }
+    ensures slot { (c : Context) (kind : Kind) (t : Table) (cs : List Numbered) (body : List Instr) (slot x : ℕ)
+        → IsReady c t cs → IsBody body → Has t.entries (Memory (Shared slot)) x
+        → option_and_then (slice_get (shared_slots t.entries))
+        (position (nat_eq x) (workgroup_ids (module_code c kind t.entries cs body))) ≡ Some slot }
 {}
 
 /// What holds of the lane of a module at its start, for the proofs of callers: it comes to the code of the

@@ -26,7 +26,7 @@ pub use ascending::Ascending;
 pub use context::Context;
 pub use declared::Declared;
 pub use entry::Entry;
-pub use laws::{form_laws, growth_laws, id_laws, length_laws, module_laws, start_laws};
+pub use laws::{form_laws, growth_laws, id_laws, length_laws, module_laws, room_laws, start_laws};
 pub use module::Kind;
 pub use numbered::Numbered;
 pub use row::{Marks, Part};
