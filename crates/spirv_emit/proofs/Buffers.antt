@@ -20,7 +20,7 @@ use Rattle.spirv_symbols.specs.Rows.{uav_access}
 use Rattle.spirv_symbols.specs.Tables.{Has}
 use Rattle.spirv_emit.specs.declared.buffer.ConstantBuffer.{ConstantBuffer}
 use Rattle.spirv_symbols.specs.declared.entry.Entry.{Entry}
-use Rattle.spirv_emit.specs.Begun.{IsBegun, IsThere, IsBufferThere, place_symbol}
+use Rattle.spirv_emit.specs.Begun.{IsBegun, IsThere, IsBufferThere, IsPlaceThere}
 use Rattle.spirv_emit.specs.Emission.{Emission, Frame, spaces_of, buffer_of, vectors_in}
 use Rattle.spirv_emit.specs.Joins.{given, always, joined, only}
 use Rattle.spirv_emit.specs.Lanes.{Site}
@@ -271,8 +271,8 @@ there (Some b) entries h = (b, refl)
 pub own : (bs : List ConstantBuffer) (slot : ℕ) (b : ConstantBuffer) → buffer_of bs slot ≡ Some b → buffer_of bs b.slot ≡ Some b
 own bs slot b e = subst (λ n. buffer_of bs n ≡ Some b) (sym (slot_is bs slot b e)) e
 
-pub placed : (entries : List Entry) (o : Option ConstantBuffer) (b : ConstantBuffer) → o ≡ Some b → IsBufferThere entries o → IsThere entries
-    (place_symbol b.slot b.place)
+pub placed : (entries : List Entry) (o : Option ConstantBuffer) (b : ConstantBuffer) → o ≡ Some b → IsBufferThere entries o → IsPlaceThere entries
+    b.slot b.place
 placed entries o b e h = subst (IsBufferThere entries) e h
 
 pub by_slot : (a b : Emission) (x r slot own : ℕ) → own ≡ slot → Gives a b (a_word x ∷ []) (a_word r ∷ []) (space_word (space.Constant own))

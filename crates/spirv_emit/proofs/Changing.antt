@@ -8,8 +8,12 @@ use Rattle.word_base.specs.declared.event.Act.TheVariants as act
 use Rattle.word_base.specs.declared.event.Event.TheVariants as event
 use Rattle.word_base.specs.declared.event.Room.{Room}
 use Rattle.kept_values.specs.declared.word.Word.TheVariants as kept
+use Rattle.shader_tree.specs.Shape as shape
 use Rattle.shader_tree.specs.Terms.{Term}
 use Rattle.shader_tree.specs.Lane.{second_operand}
+use Rattle.spirv_words.specs.Globals.{Places}
+use Rattle.spirv_words.specs.Sorts.{sort_of_value}
+use Rattle.spirv_words.specs.StorageClass.{has_events}
 use Rattle.spirv_words.specs.Text.{instr}
 use Rattle.spirv_words.specs.Values.{Word, AtRoom}
 use Rattle.spirv_words.specs.Lane.{State, step, with_value}
@@ -25,11 +29,14 @@ use Rattle.spirv_words.specs.Ids.{ids_of}
 use Rattle.spirv_words.specs.Text.{is_instr}
 use Rattle.spirv_emit.specs.Code.{typed, typed_result, IsPlain, asks_of, TakesBy}
 use Rattle.spirv_emit.specs.Lanes.{Site, IsWhole}
-use Rattle.spirv_emit.specs.Rooms.{class_of, room_word, IsOne, number_of_act}
+use Rattle.spirv_emit.specs.Linked.{IsPointer}
+use Rattle.spirv_emit.specs.ModuleShape.{Seen, marks_of, pointer_room}
+use Rattle.spirv_emit.specs.Rooms.{PointsTo, class_of, room_word, IsOne, number_of_act}
 use Rattle.spirv_emit.specs.Steps.{Adds, IsPut}
 use Rattle.spirv_emit.specs.Values.{slot, a_word, Gives, valued}
 use Rattle.spirv_emit.proofs.Forms.{acts}
-use Rattle.spirv_emit.proofs.Giving.{then', only_gives, named_gives}
+use Rattle.spirv_emit.proofs.Giving.{then', leads_front, leads_back, only_gives, only_leads, named_gives}
+use Rattle.spirv_emit.proofs.Links.{event_seen}
 use Rattle.spirv_emit.proofs.Room.{has_below}
 use Rattle.spirv_emit.proofs.Effects.{event_class}
 use Rattle.spirv_emit.proofs.Stores.{there_named, answer_meets}
@@ -138,10 +145,38 @@ module _ (z : Site) (s : State) (whole : IsWhole z) (t r p a b x i w : ℕ) (q :
       → step z.machine s ≡ Asks (event.Atomic q i act.CompareExchange w v) (λ answer. with_value s r (Word answer))
   exchange_step y v hy at = acts z s (instr 230 (t ∷ r ∷ p ∷ a ∷ b ∷ b ∷ y ∷ x ∷ [])) whole at ∙ rw (hp, ha, hb, hx, hy, inside) refl
 
+-- the item of an atomic
+change_seen : (z : Site) (places : Places) (kind : Act) (t r p : ℕ) (os : List ℕ) (class : ℕ) (q : Room)
+    → IsPointer (sort_of_value z.machine.code p) class → IsTrue (has_events class) → pointer_room z.machine.code places p ≡ Some q
+    → marks_of z.machine.code places (instr (number_of_act kind) (t ∷ r ∷ p ∷ os)) ≡ Seen (shape.Changes q kind) ∷ []
+change_seen z places act.Add t r p os class q k e f =
+    event_seen (λ room. shape.Changes room act.Add) (sort_of_value z.machine.code p) class (pointer_room z.machine.code places p) q k e f
+change_seen z places act.Sub t r p os class q k e f =
+    event_seen (λ room. shape.Changes room act.Sub) (sort_of_value z.machine.code p) class (pointer_room z.machine.code places p) q k e f
+change_seen z places act.And t r p os class q k e f =
+    event_seen (λ room. shape.Changes room act.And) (sort_of_value z.machine.code p) class (pointer_room z.machine.code places p) q k e f
+change_seen z places act.Or t r p os class q k e f =
+    event_seen (λ room. shape.Changes room act.Or) (sort_of_value z.machine.code p) class (pointer_room z.machine.code places p) q k e f
+change_seen z places act.Xor t r p os class q k e f =
+    event_seen (λ room. shape.Changes room act.Xor) (sort_of_value z.machine.code p) class (pointer_room z.machine.code places p) q k e f
+change_seen z places act.SMax t r p os class q k e f =
+    event_seen (λ room. shape.Changes room act.SMax) (sort_of_value z.machine.code p) class (pointer_room z.machine.code places p) q k e f
+change_seen z places act.SMin t r p os class q k e f =
+    event_seen (λ room. shape.Changes room act.SMin) (sort_of_value z.machine.code p) class (pointer_room z.machine.code places p) q k e f
+change_seen z places act.UMax t r p os class q k e f =
+    event_seen (λ room. shape.Changes room act.UMax) (sort_of_value z.machine.code p) class (pointer_room z.machine.code places p) q k e f
+change_seen z places act.UMin t r p os class q k e f =
+    event_seen (λ room. shape.Changes room act.UMin) (sort_of_value z.machine.code p) class (pointer_room z.machine.code places p) q k e f
+change_seen z places act.Exchange t r p os class q k e f =
+    event_seen (λ room. shape.Changes room act.Exchange) (sort_of_value z.machine.code p) class (pointer_room z.machine.code places p) q k e f
+change_seen z places act.CompareExchange t r p os class q k e f =
+    event_seen (λ room. shape.Changes room act.CompareExchange) (sort_of_value z.machine.code p) class (pointer_room z.machine.code places p) q k
+    e f
+
 -- an atomic with one value: the scope is the device, and no memory is ordered
 module _ (a b c d e k : Emission) (n at v p one zero' r t : ℕ) (q : Room) (kind : Act) (x y w : Term) (begun : IsBegun d)
     (g : Gives a b [] (a_word at ∷ []) (valued x)) (h : Gives b c [] (a_word v ∷ []) (valued y))
-    (m : Gives c d (a_word at ∷ []) (slot p (symbol.WordPointer (class_of q)) ∷ []) (room_word q))
+    (to : PointsTo c d q at p)
     (has : Has d.symbols.entries (symbols.AType symbol.Word) t) (hone : Has d.symbols.entries (symbols.Constant 1) one)
     (hzero : Has d.symbols.entries (symbols.Constant 0) zero') where
   constant : (n o : ℕ) → Has d.symbols.entries (symbols.Constant n) o → Gives d d [] (a_word o ∷ []) (always (Word n))
@@ -150,8 +185,9 @@ module _ (a b c d e k : Emission) (n at v p one zero' r t : ℕ) (q : Room) (kin
       (there_named d (symbols.Constant n) o has (has_below d.frame.context d.symbols (symbols.Constant n) o begun.table has))
 
   pub change_meets : IsOne kind → Adds d e (instr (number_of_act kind) (t ∷ r ∷ p ∷ one ∷ zero' ∷ v ∷ [])) r → IsPut e k (kept.Scratch n) r
-      → Meets a k (Atomics n q x kind y w)
+      → Meets a k (shape.Changes q kind) (Atomics n q x kind y w)
   change_meets is add put =
+      let m = to.gives in
       let ptr = slot p (symbol.WordPointer (class_of q)) in
       let f1 = joined (valued x) [] (valued y) in
       let g1 = then' a b c [] (a_word at ∷ []) [] (a_word v ∷ []) (valued x) (valued y) [] g h refl in
@@ -170,6 +206,15 @@ module _ (a b c d e k : Emission) (n at v p one zero' r t : ℕ) (q : Room) (kin
       (λ z comp l is. subst (λ o. TakesBy z.names l o (ids_of (instr (number_of_act kind) (t ∷ r ∷ os))).uses (t ∷ r ∷ os))
       (sym (asks_atomic kind t r os))
       (comp.has (symbols.AType symbol.Word) t has, (class_of q, is.0, event_class q), (is.1.0, (is.1.1.0, (is.1.1.1.0, tt)))))
+      (shape.Changes q kind)
+      (λ z places comp linked here is.
+      let l2 = leads_back a c d [] (a_word v ∷ a_word at ∷ []) (a_word at ∷ []) (ptr ∷ []) f1 (room_word q) (1 ∷ []) g1 m refl q p to.leads in
+      let l3 = leads_front a d d [] (ptr ∷ a_word v ∷ a_word at ∷ []) [] (a_word one ∷ []) f2 (always (Word 1)) [] g2 (constant 1 one hone) refl q p
+      l2 in
+      let l4 = leads_front a d d [] (a_word one ∷ ptr ∷ a_word v ∷ a_word at ∷ []) [] (a_word zero' ∷ []) f3 (always (Word 0)) [] g3
+      (constant 0 zero' hzero) refl q p l3 in
+      let l5 = only_leads a d [] (a_word zero' ∷ a_word one ∷ ptr ∷ a_word v ∷ a_word at ∷ []) rs f4 (2 ∷ 1 ∷ 0 ∷ 3 ∷ []) g4 refl q p l4 in
+      change_seen z places kind t r p (one ∷ zero' ∷ v ∷ []) (class_of q) q is.0 (event_class q) (l5 z places comp linked here))
       (Atomics n q x kind y w)
       (λ z comp s ev u l. (
         l.8,
@@ -186,7 +231,7 @@ module _ (a b c d e k : Emission) (n at v p one zero' r t : ℕ) (q : Room) (kin
 -- an atomic that compares
 module _ (a b c d e k o : Emission) (n at v u p one zero' r t : ℕ) (q : Room) (x y w : Term) (begun : IsBegun e)
     (g : Gives a b [] (a_word at ∷ []) (valued x)) (h : Gives b c [] (a_word v ∷ []) (valued y)) (j : Gives c d [] (a_word u ∷ []) (valued w))
-    (m : Gives d e (a_word at ∷ []) (slot p (symbol.WordPointer (class_of q)) ∷ []) (room_word q))
+    (to : PointsTo d e q at p)
     (has : Has e.symbols.entries (symbols.AType symbol.Word) t) (hone : Has e.symbols.entries (symbols.Constant 1) one)
     (hzero : Has e.symbols.entries (symbols.Constant 0) zero') where
   number : (n o : ℕ) → Has e.symbols.entries (symbols.Constant n) o → Gives e e [] (a_word o ∷ []) (always (Word n))
@@ -195,8 +240,9 @@ module _ (a b c d e k o : Emission) (n at v u p one zero' r t : ℕ) (q : Room) 
       (there_named e (symbols.Constant n) o has (has_below e.frame.context e.symbols (symbols.Constant n) o begun.table has))
 
   pub exchange_meets : Adds e k (instr 230 (t ∷ r ∷ p ∷ one ∷ zero' ∷ zero' ∷ u ∷ v ∷ [])) r → IsPut k o (kept.Scratch n) r
-      → Meets a o (Atomics n q x act.CompareExchange y w)
+      → Meets a o (shape.Changes q act.CompareExchange) (Atomics n q x act.CompareExchange y w)
   exchange_meets add put =
+      let m = to.gives in
       let ptr = slot p (symbol.WordPointer (class_of q)) in
       let f1 = joined (valued x) [] (valued y) in
       let g1 = then' a b c [] (a_word at ∷ []) [] (a_word v ∷ []) (valued x) (valued y) [] g h refl in
@@ -218,6 +264,18 @@ module _ (a b c d e k o : Emission) (n at v u p one zero' r t : ℕ) (q : Room) 
         (class_of q, is.0, event_class q),
         (is.1.0, (is.1.1.0, (is.1.1.0, (is.1.1.1.0, (is.1.1.1.1.0, tt))))),
       ))
+      (shape.Changes q act.CompareExchange)
+      (λ z places comp linked here is.
+      let l3 = leads_back a d e [] (a_word u ∷ a_word v ∷ a_word at ∷ []) (a_word at ∷ []) (ptr ∷ []) f2 (room_word q) (2 ∷ []) g2 m refl q p
+      to.leads in
+      let l4 = leads_front a e e [] (ptr ∷ a_word u ∷ a_word v ∷ a_word at ∷ []) [] (a_word one ∷ []) f3 (always (Word 1)) [] g3
+      (number 1 one hone) refl q p l3 in
+      let l5 = leads_front a e e [] (a_word one ∷ ptr ∷ a_word u ∷ a_word v ∷ a_word at ∷ []) [] (a_word zero' ∷ []) f4 (always (Word 0)) [] g4
+      (number 0 zero' hzero) refl q p l4 in
+      let l6 = only_leads a e [] (a_word zero' ∷ a_word one ∷ ptr ∷ a_word u ∷ a_word v ∷ a_word at ∷ []) rs f5 (2 ∷ 1 ∷ 0 ∷ 3 ∷ 4 ∷ []) g5 refl
+      q p l5 in
+      change_seen z places act.CompareExchange t r p (one ∷ zero' ∷ zero' ∷ u ∷ v ∷ []) (class_of q) q is.0 (event_class q)
+      (l6 z places comp linked here))
       (Atomics n q x act.CompareExchange y w)
       (λ z comp s ev f l. (
         l.8,

@@ -1,27 +1,34 @@
 -- The types that the symbols of a finished module have.
 use Rattle.std.proofs.Common.{◌≡◌, ℕ, true, false, List, [], ◌∷◌, length, Some, refl, sym, ap, ◌∙◌, subst}
-use Rattle.std.specs.Prelude.{nat_eq, if◌then◌else◌}
+use Rattle.std.specs.Prelude.{nat_eq, if◌then◌else◌, option_and_then, option_map, position, slice_get}
+use Rattle.word_base.specs.declared.event.Room.{Room}
 use Rattle.word_base.specs.declared.event.Room.TheVariants.{Resource, Uav, Counter, Shared}
 use Rattle.spirv_words.specs.StorageClass as storage
 use Rattle.spirv_words.specs.BuiltIn.{LocalInvocationIndex}
-use Rattle.spirv_words.specs.Decoration.{ArrayStride, Offset}
+use Rattle.spirv_words.specs.Decoration.{ArrayStride, Binding, DescriptorSet, Offset}
 use Rattle.spirv_words.specs.Text.{Instr}
 use Rattle.spirv_words.specs.Ids.{type_of}
 use Rattle.spirv_words.specs.Sorts.{sort_of, sort_of_type, sort_of_value}
-use Rattle.spirv_words.specs.Globals.{decoration, member_decoration}
+use Rattle.spirv_words.specs.Globals.{Places, bound_room, decoration, member_decoration, workgroup_ids}
 use Rattle.spirv_words.specs.Lane.{is_glsl}
 use Rattle.spirv_symbols.specs.declared.symbol.Access.{Access}
 use Rattle.spirv_symbols.specs.declared.symbol.Access.TheVariants.{Plain, ReadOnly}
 use Rattle.spirv_symbols.specs.declared.symbol.Symbol.{Symbol}
-use Rattle.spirv_symbols.specs.declared.symbol.Symbol.TheVariants.{AType, Constant, Import, Input, Memory, Uniform, Push, Registers, Elements, ImmediateArray}
+use Rattle.spirv_symbols.specs.declared.symbol.Symbol.TheVariants.{AType, Constant, FirstLabel, Import, Main, Input, Memory, Uniform, Push, Registers, Elements, ImmediateArray}
 use Rattle.spirv_symbols.specs.declared.symbol.TypeSymbol.{TypeSymbol}
-use Rattle.spirv_symbols.specs.declared.symbol.TypeSymbol.TheVariants.{Word, Triple, Quad, Words, PushWords, Vectors, RuntimeWords, View, VectorsBlock, PushBlock, WordPointer, TriplePointer, LocalPointer, SharedPointer, ViewPointer, VectorsPointer, PushPointer}
-use Rattle.spirv_symbols.specs.declared.row.Marks.TheVariants.{Stride, Block}
+use Rattle.spirv_symbols.specs.declared.symbol.TypeSymbol.TheVariants.{Void, Procedure, Word, Triple, Quad, Words, PushWords, Vectors, RuntimeWords, View, VectorsBlock, PushBlock, WordPointer, TriplePointer, LocalPointer, SharedPointer, ViewPointer, VectorsPointer, PushPointer}
+use Rattle.spirv_symbols.specs.declared.row.Part.{Part}
+use Rattle.spirv_symbols.specs.declared.row.Part.TheVariants.{Own, Of}
+use Rattle.spirv_symbols.specs.declared.row.Marks.TheVariants.{Stride, Block, Bound as AtPlace}
 use Rattle.spirv_symbols.specs.Contexts.{Context, declared_of, size_of}
-use Rattle.spirv_symbols.specs.Rows.{row_of, needs, uav_access, input_pointer}
+use Rattle.spirv_symbols.specs.Rows.{row_of, needs, needs_in, uav_access, input_pointer}
 use Rattle.spirv_symbols.specs.declared.entry.Entry.{Entry}
 use Rattle.spirv_symbols.specs.Tables.{Has, AreThere, id_of}
-use Rattle.spirv_symbols.specs.Sorted.{id_of_type, sort_for, value_type}
+use Rattle.spirv_symbols.specs.Sorted.{Defines, id_of_type, sort_for, value_type}
+use Rattle.spirv_emit.specs.Code.{type_in, type_of_symbol}
+use Rattle.spirv_emit.specs.Linked.{IsPointer, IsBound, ArePlaced}
+use Rattle.spirv_emit.specs.ModuleShape.{variable_room}
+use Rattle.spirv_symbols.specs.Starts.{shared_slots}
 use Rattle.spirv_emit.specs.Lanes.{IsArray, IsPushBlock, IsView, IsVectors, IsTriple, HasSort}
 
 pub record Known (c : Context) (es : List Entry) (code : List Instr) : Type 0 where
@@ -32,6 +39,24 @@ pub record Known (c : Context) (es : List Entry) (code : List Instr) : Type 0 wh
   pub offsets : (s : Symbol) (x : ℕ) (access : Access) → Has es s x → (row_of c s).marks ≡ Block access → member_decoration code x 0 Offset ≡ Some 0
   pub founded : (s : Symbol) (x : ℕ) → Has es s x → AreThere es (needs c s) x
   pub found : (s : Symbol) (x : ℕ) → Has es s x → id_of es s ≡ x
+
+-- pointers to words among the types of values
+type_needs : (parts : List Part) (y : TypeSymbol) → type_in parts ≡ Some y → (us : List Symbol) × (needs_in parts ≡ AType y ∷ us)
+type_needs (Of (AType t) ∷ Own ∷ rest) y e = (needs_in rest, ap (λ s. AType s ∷ needs_in rest) (cc e))
+type_needs parts y e = absurd (cc e)
+
+pointer_type : (c : Context) (s : Symbol) (class : ℕ) → type_of_symbol c s ≡ Some (WordPointer class) → value_type c s ≡ Some (WordPointer class)
+pointer_type c (Memory (Shared slot)) class e = e
+pointer_type c (Memory (Resource slot)) class e = e
+pointer_type c (Memory (Uav slot)) class e = e
+pointer_type c (Memory (Counter slot)) class e = e
+pointer_type c (AType Void) class e = absurd (cc e)
+pointer_type c (AType Procedure) class e = absurd (cc e)
+pointer_type c (AType t) class e = absurd (cc e)
+pointer_type c Import class e = absurd (cc e)
+pointer_type c Main class e = absurd (cc e)
+pointer_type c FirstLabel class e = absurd (cc e)
+pointer_type c s class e = e
 
 module _ (c : Context) (es : List Entry) (code : List Instr) (k : Known c es code) where
   abbrev ids : TypeSymbol → ℕ
@@ -156,6 +181,15 @@ module _ (c : Context) (es : List Entry) (code : List Instr) (k : Known c es cod
         element' = sort_is Word w;
       }
 
+  pub pointer_sort : (class x : ℕ) → Has es (AType (WordPointer class)) x → IsPointer (sort_of code x) class
+  pointer_sort class x h = record { pointee = ids Word; pointer = k.sorts (WordPointer class) x h }
+
+  pub word_pointer : (s : Symbol) (class x : ℕ) → Has es s x → type_of_symbol c s ≡ Some (WordPointer class) → IsPointer (sort_of_value code x) class
+  word_pointer s class x h e =
+      let n = type_needs (row_of c s).parts (WordPointer class) e in
+      let p = inner s (WordPointer class) n.0 x h n.1 in
+      record { pointee = ids Word; pointer = points s (WordPointer class) x h (pointer_type c s class e) p }
+
   pub has_sort : (s : Symbol) (x : ℕ) → Has es s x → HasSort code c s x
   has_sort (AType Word) x h = k.sorts Word x h
   has_sort Import x h = k.imports x h
@@ -170,3 +204,57 @@ module _ (c : Context) (es : List Entry) (code : List Instr) (k : Known c es cod
   has_sort (Elements slot) x h = local_array (Elements slot) (size_of c (Elements slot)) x _ h refl refl
   has_sort ImmediateArray x h = local_array ImmediateArray (length c.immediates) x _ h refl refl
   has_sort s x h = tt
+
+-- the variables of rooms
+pub record Bound (c : Context) (es : List Entry) (code : List Instr) : Type 0 where
+  pub set : (s : Symbol) (x set binding : ℕ) → Has es s x → (row_of c s).marks ≡ AtPlace set binding → decoration code x DescriptorSet ≡ Some set
+  pub binding : (s : Symbol) (x set binding : ℕ) → Has es s x → (row_of c s).marks ≡ AtPlace set binding → decoration code x Binding ≡ Some binding
+  pub slot : (slot x : ℕ) → Has es (Memory (Shared slot)) x
+      → option_and_then (slice_get (shared_slots es)) (position (nat_eq x) (workgroup_ids code)) ≡ Some slot
+
+module _ (c : Context) (es : List Entry) (code : List Instr) (places : Places) (d : Defines c es code) (b : Bound c es code)
+    (placed : ArePlaced c es places) where
+  at_place : (r : Room) (x : ℕ) → decoration code x DescriptorSet ≡ Some (declared_of c (Memory r)).set
+      → decoration code x Binding ≡ Some (declared_of c (Memory r)).binding
+      → bound_room places (Some (declared_of c (Memory r)).set) (Some (declared_of c (Memory r)).binding) ≡ Some r
+      → variable_room code places x storage.StorageBuffer ≡ Some r
+  at_place r x e f g = rw (e, f) g
+
+  view_bound : (r : Room) (x : ℕ) → Has es (Memory r) x
+      → (row_of c (Memory r)).marks ≡ AtPlace (declared_of c (Memory r)).set (declared_of c (Memory r)).binding
+      → bound_room places (Some (declared_of c (Memory r)).set) (Some (declared_of c (Memory r)).binding) ≡ Some r
+      → variable_room code places x storage.StorageBuffer ≡ Some r
+  view_bound r x h m g =
+      at_place r x (b.set (Memory r) x (declared_of c (Memory r)).set (declared_of c (Memory r)).binding h m)
+      (b.binding (Memory r) x (declared_of c (Memory r)).set (declared_of c (Memory r)).binding h m) g
+
+  shared_bound : (slot x : ℕ) → Has es (Memory (Shared slot)) x → variable_room code places x storage.Workgroup ≡ Some (Shared slot)
+  shared_bound slot x h =
+      ap (λ l. option_map (λ s. Shared s) (option_and_then (slice_get l) (position (nat_eq x) (workgroup_ids code)))) placed.shared
+      ∙ ap (option_map (λ s. Shared s)) (b.slot slot x h)
+
+  pub bound_there : (room : Room) (x : ℕ) → Has es (Memory room) x → IsBound code places room x
+  bound_there (Resource slot) x h = record {
+    type' = _;
+    class = storage.StorageBuffer;
+    variable = d.whole (Memory (Resource slot)) x h;
+    found = view_bound (Resource slot) x h refl (placed.bound (Resource slot) x h);
+  }
+  bound_there (Uav slot) x h = record {
+    type' = _;
+    class = storage.StorageBuffer;
+    variable = d.whole (Memory (Uav slot)) x h;
+    found = view_bound (Uav slot) x h refl (placed.bound (Uav slot) x h);
+  }
+  bound_there (Counter slot) x h = record {
+    type' = _;
+    class = storage.StorageBuffer;
+    variable = d.whole (Memory (Counter slot)) x h;
+    found = view_bound (Counter slot) x h refl (placed.bound (Counter slot) x h);
+  }
+  bound_there (Shared slot) x h = record {
+    type' = _;
+    class = storage.Workgroup;
+    variable = d.whole (Memory (Shared slot)) x h;
+    found = shared_bound slot x h;
+  }

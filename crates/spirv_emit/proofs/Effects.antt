@@ -8,6 +8,7 @@ use Rattle.word_base.specs.declared.event.Room.{Room}
 use Rattle.word_base.specs.declared.event.Room.TheVariants as room
 use Rattle.kept_values.specs.declared.word.Word.TheVariants as kept
 use Rattle.kept_values.specs.Tables.{dirty_in}
+use Rattle.shader_tree.specs.Shape as shape
 use Rattle.shader_tree.specs.Terms.{Term}
 use Rattle.spirv_words.specs.Text.{instr}
 use Rattle.spirv_words.specs.Sorts.{Words as AreWords, sort_of}
@@ -23,11 +24,12 @@ use Rattle.spirv_emit.specs.Joins.{joined, only}
 use Rattle.spirv_words.specs.StorageClass.{has_events}
 use Rattle.spirv_emit.specs.Code.{is_loaded, is_stored}
 use Rattle.spirv_emit.specs.Lanes.{Site, IsWhole}
-use Rattle.spirv_emit.specs.Rooms.{class_of, room_word}
+use Rattle.spirv_emit.specs.Rooms.{PointsTo, class_of, room_word}
 use Rattle.spirv_emit.specs.Steps.{Adds, Acts, IsPut}
 use Rattle.spirv_emit.specs.Values.{slot, a_word, Gives, valued}
 use Rattle.spirv_emit.proofs.Forms.{acts}
-use Rattle.spirv_emit.proofs.Giving.{then', only_gives}
+use Rattle.spirv_emit.proofs.Giving.{then', leads_back, only_gives, only_leads}
+use Rattle.spirv_emit.proofs.Links.{load_seen, store_seen}
 use Rattle.spirv_emit.proofs.Memory.{PutsWell, sets_well}
 use Rattle.spirv_emit.proofs.Stores.{event_meets, answer_meets, put_alters}
 
@@ -78,15 +80,20 @@ event_class (room.Counter x) = refl
 
 -- LOADS AND STORES.
 pub load_meets : (a b c d e : Emission) (n at p r t : ℕ) (q : Room) (x : Term) → Gives a b [] (a_word at ∷ []) (valued x)
-    → Gives b c (a_word at ∷ []) (slot p (symbol.WordPointer (class_of q)) ∷ []) (room_word q) → Has c.symbols.entries (symbols.AType symbol.Word) t
-    → Adds c d (instr 61 (t ∷ r ∷ p ∷ [])) r → IsPut d e (kept.Scratch n) r → Meets a e (Loads n q x)
-load_meets a b c d e n at p r t q x g h has add put =
+    → PointsTo b c q at p → Has c.symbols.entries (symbols.AType symbol.Word) t
+    → Adds c d (instr 61 (t ∷ r ∷ p ∷ [])) r → IsPut d e (kept.Scratch n) r → Meets a e (shape.Loads q) (Loads n q x)
+load_meets a b c d e n at p r t q x g to has add put =
+    let h = to.gives in
     let ptr = slot p (symbol.WordPointer (class_of q)) in
     let f = joined (valued x) (0 ∷ []) (room_word q) in
     let two = then' a b c [] (a_word at ∷ []) (a_word at ∷ []) (ptr ∷ []) (valued x) (room_word q) (0 ∷ []) g h refl in
     let one = only_gives a c [] (ptr ∷ a_word at ∷ []) (ptr ∷ []) f (0 ∷ []) two refl in
     answer_meets a c d e (ptr ∷ []) (only (0 ∷ []) f) (instr 61 (t ∷ r ∷ p ∷ [])) r t n one add put refl (refl, refl) has
-    (λ z comp k is. (comp.has (symbols.AType symbol.Word) t has, (class_of q, is.0, loaded_class q)))
+    (λ z comp k is. (comp.has (symbols.AType symbol.Word) t has, (class_of q, is.0, loaded_class q))) (shape.Loads q)
+    (λ z places comp linked here is.
+    let led = only_leads a c [] (ptr ∷ a_word at ∷ []) (ptr ∷ []) f (0 ∷ []) two refl q p
+    (leads_back a b c [] (a_word at ∷ []) (a_word at ∷ []) (ptr ∷ []) (valued x) (room_word q) (0 ∷ []) g h refl q p to.leads) in
+    load_seen z places t r p (class_of q) q is.0 (event_class q) (led z places comp linked here))
     (Loads n q x)
     (λ z comp s ev u l. (
       l.4,
@@ -101,9 +108,10 @@ load_meets a b c d e n at p r t q x g h has add put =
 
 pub store_meets : (a b c d e : Emission) (at v p : ℕ) (q : Room) (x y : Term) → Gives a b [] (a_word at ∷ []) (valued x)
     → Gives b c [] (a_word v ∷ []) (valued y)
-    → Gives c d (a_word at ∷ []) (slot p (symbol.WordPointer (class_of q)) ∷ []) (room_word q) → Acts d e (instr 62 (p ∷ v ∷ []))
-    → Meets a e (Stores q x y)
-store_meets a b c d e at v p q x y g h k act =
+    → PointsTo c d q at p → Acts d e (instr 62 (p ∷ v ∷ []))
+    → Meets a e (shape.Stores q) (Stores q x y)
+store_meets a b c d e at v p q x y g h to act =
+    let k = to.gives in
     let ptr = slot p (symbol.WordPointer (class_of q)) in
     let f = joined (valued x) [] (valued y) in
     let two = then' a b c [] (a_word at ∷ []) [] (a_word v ∷ []) (valued x) (valued y) [] g h refl in
@@ -111,7 +119,11 @@ store_meets a b c d e at v p q x y g h k act =
     let three = then' a c d [] (a_word v ∷ a_word at ∷ []) (a_word at ∷ []) (ptr ∷ []) f (room_word q) (1 ∷ []) two k refl in
     let four = only_gives a d [] (ptr ∷ a_word v ∷ a_word at ∷ []) (ptr ∷ a_word v ∷ []) m (0 ∷ 1 ∷ []) three refl in
     event_meets a d e (ptr ∷ a_word v ∷ []) (only (0 ∷ 1 ∷ []) m) (instr 62 (p ∷ v ∷ [])) four act refl (refl, refl)
-    (λ z comp k is. ((class_of q, is.0, stored_class q), is.1.0))
+    (λ z comp k is. ((class_of q, is.0, stored_class q), is.1.0)) (shape.Stores q)
+    (λ z places comp linked here is.
+    let led = only_leads a d [] (ptr ∷ a_word v ∷ a_word at ∷ []) (ptr ∷ a_word v ∷ []) m (0 ∷ 1 ∷ []) three refl q p
+    (leads_back a c d [] (a_word v ∷ a_word at ∷ []) (a_word at ∷ []) (ptr ∷ []) f (room_word q) (1 ∷ []) two k refl q p to.leads) in
+    store_seen z places p v (class_of q) q is.0 (event_class q) (led z places comp linked here))
     (Stores q x y)
     (λ z comp s ev u l. (
       l.7,

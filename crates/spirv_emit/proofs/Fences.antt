@@ -6,6 +6,7 @@ use Rattle.word_base.specs.declared.event.Classes.{Classes}
 use Rattle.word_base.specs.declared.event.Event.TheVariants as event
 use Rattle.word_base.specs.declared.event.Scope.{Scope}
 use Rattle.word_base.specs.declared.event.Scope.TheVariants as scope
+use Rattle.shader_tree.specs.Shape.{Waits, Fences}
 use Rattle.spirv_words.specs.Text.{instr}
 use Rattle.spirv_words.specs.Values.{Word}
 use Rattle.spirv_words.specs.Memory.{scope_of, classes_of}
@@ -47,7 +48,7 @@ module _ (z : Site) (s : State) (whole : IsWhole z) (k m : ℕ) (x : Scope) (c :
 
 pub barrier_meets : (a b c d e : Emission) (g k m : ℕ) (x : Scope) (cl : Classes) → Gives a b [] (a_word g ∷ []) (always (Word 2))
     → Gives b c [] (a_word k ∷ []) (always (Word (number_of_scope x)))
-    → Gives c d [] (a_word m ∷ []) (always (Word (semantics_of cl))) → Acts d e (instr 224 (g ∷ k ∷ m ∷ [])) → Meets a e (Syncs true x cl)
+    → Gives c d [] (a_word m ∷ []) (always (Word (semantics_of cl))) → Acts d e (instr 224 (g ∷ k ∷ m ∷ [])) → Meets a e Waits (Syncs true x cl)
 barrier_meets a b c d e g k m x cl hg hk hm act =
     let w2 = Word 2 in let wk = Word (number_of_scope x) in let wm = Word (semantics_of cl) in
     let f1 = joined (always w2) [] (always wk) in
@@ -57,7 +58,7 @@ barrier_meets a b c d e g k m x cl hg hk hm act =
     let rs = a_word g ∷ a_word k ∷ a_word m ∷ [] in
     let g3 = only_gives a d [] (a_word m ∷ a_word k ∷ a_word g ∷ []) rs f2 (2 ∷ 1 ∷ 0 ∷ []) g2 refl in
     event_meets a d e rs (only (2 ∷ 1 ∷ 0 ∷ []) f2) (instr 224 (g ∷ k ∷ m ∷ [])) g3 act refl (refl, refl)
-    (λ z comp l is. (is.0, (is.1.0, (is.1.1.0, tt)))) (Syncs true x cl)
+    (λ z comp l is. (is.0, (is.1.0, (is.1.1.0, tt)))) Waits (λ z places comp linked here is. refl) (Syncs true x cl)
     (λ z comp t ev u l. (
       l.1,
       (
@@ -68,7 +69,7 @@ barrier_meets a b c d e g k m x cl hg hk hm act =
     ))
 
 pub fence_meets : (a b c d : Emission) (k m : ℕ) (x : Scope) (cl : Classes) → Gives a b [] (a_word k ∷ []) (always (Word (number_of_scope x)))
-    → Gives b c [] (a_word m ∷ []) (always (Word (semantics_of cl))) → Acts c d (instr 225 (k ∷ m ∷ [])) → Meets a d (Syncs false x cl)
+    → Gives b c [] (a_word m ∷ []) (always (Word (semantics_of cl))) → Acts c d (instr 225 (k ∷ m ∷ [])) → Meets a d Fences (Syncs false x cl)
 fence_meets a b c d k m x cl hk hm act =
     let wk = Word (number_of_scope x) in let wm = Word (semantics_of cl) in
     let f1 = joined (always wk) [] (always wm) in
@@ -76,7 +77,7 @@ fence_meets a b c d k m x cl hk hm act =
     let rs = a_word k ∷ a_word m ∷ [] in
     let g2 = only_gives a c [] (a_word m ∷ a_word k ∷ []) rs f1 (1 ∷ 0 ∷ []) g1 refl in
     event_meets a c d rs (only (1 ∷ 0 ∷ []) f1) (instr 225 (k ∷ m ∷ [])) g2 act refl (refl, refl)
-    (λ z comp l is. (is.0, (is.1.0, tt))) (Syncs false x cl)
+    (λ z comp l is. (is.0, (is.1.0, tt))) Fences (λ z places comp linked here is. refl) (Syncs false x cl)
     (λ z comp t ev u l. (
       l.1,
       (

@@ -1,21 +1,22 @@
 -- Single instructions: a lemma a form.
-use Rattle.std.proofs.Common.{◌≡◌, ℕ, ◌<◌, List, [], ◌∷◌, Option, Some, None, refl, sym, ap, ◌∙◌, subst}
+use Rattle.std.proofs.Common.{◌≡◌, ℕ, ◌<◌, inl, List, [], ◌∷◌, Option, Some, None, refl, sym, ap, ◌∙◌, subst}
 use Rattle.std.specs.Prelude.{slice_get, Ok, option_map, true, nat_lt, length, IsTrue}
 use Rattle.spirv_words.specs.Blocks.{flow_of_op}
-use Rattle.spirv_words.specs.Ids.{defined_by, ids_of}
-use Rattle.spirv_words.specs.Roles.{Part, ValueSort, Plain, AValue, Body}
-use Rattle.spirv_words.specs.Operations.{Op, OpCompositeExtract, OpExtInst, OpSelect, Row, computes, four, one, op_of, row_of, three, two, value_from}
+use Rattle.spirv_words.specs.Ids.{defined_by, ids_of, ids_in, parts_of}
+use Rattle.spirv_words.specs.Roles.{Part, ValueSort, Makes, Plain, AValue, Body}
+use Rattle.spirv_words.specs.Operations.{Op, OpAtomicAnd, OpAtomicCompareExchange, OpAtomicExchange, OpAtomicIAdd, OpAtomicISub, OpAtomicOr, OpAtomicSMax, OpAtomicSMin, OpAtomicUMax, OpAtomicUMin, OpAtomicXor, OpCompositeExtract, OpControlBarrier, OpExtInst, OpLabel, OpLoad, OpLoopMerge, OpMemoryBarrier, OpSelect, OpStore, OpSwitch, Row, computes, four, one, op_of, row_of, three, two, value_from}
 use Rattle.spirv_words.specs.Text.{Instr, fits_op, instr, is_instr}
 use Rattle.spirv_words.specs.Values.{Value, word_of}
 use Rattle.spirv_words.specs.Meanings.{Class, Unary, Binary, Ternary, Quaternary, OfTruth, OfTruths, Other, class_of, extended}
-use Rattle.spirv_words.specs.Globals.{Machine}
+use Rattle.spirv_words.specs.Globals.{Machine, Places}
 use Rattle.spirv_words.specs.Lane.{State, step, sets, act, act_in, act_of_op, is_glsl}
 use Rattle.spirv_symbols.specs.declared.symbol.Symbol.TheVariants.{AType, Import}
 use Rattle.spirv_symbols.specs.declared.symbol.TypeSymbol.TheVariants as symbol
 use Rattle.spirv_symbols.specs.Tables.{Has}
 use Rattle.spirv_emit.specs.Emission.{Emission}
-use Rattle.spirv_emit.specs.Code.{Typed, typed, typed_by, asks_by, section_by, AreOf, TakesBy, type_for}
+use Rattle.spirv_emit.specs.Code.{In, Typed, typed, typed_by, asks_by, section_by, AreOf, TakesBy, type_for}
 use Rattle.spirv_emit.specs.Lanes.{Site, IsWhole}
+use Rattle.spirv_emit.specs.ModuleShape.{marks_in, marks_of_op}
 use Rattle.spirv_emit.specs.Values.{Slot, slot, a_word, a_truth, a_pair, AreValues, AreKnown, Gives}
 use Rattle.spirv_emit.specs.Operations.{row_at, computed, computed_by, calc, chosen, choosing, found, finding, part, taking}
 use Rattle.spirv_emit.specs.Steps.{Adds}
@@ -96,9 +97,43 @@ module _ (t r : ℕ) (os : List ℕ) where
   asks_at None q e = absurd (cc e)
   asks_at (Some op) q e = ap (λ (y : Row). y.asks) (some_row (row_of op) q e)
 
+  own_at : (o : Option Op) (q : Row) (parts : List Part) → option_map row_of o ≡ Some q → q.layout ≡ value_from parts
+      → In (ids_in (parts_of o) (t ∷ r ∷ os)).results r
+  own_at None q parts e d = absurd (cc e)
+  own_at (Some op) q parts e d =
+      subst (λ l. In (ids_in l (t ∷ r ∷ os)).results r) (sym (ap (λ (y : Row). y.layout) (some_row (row_of op) q e) ∙ d)) (inl refl)
+
   fits_at : (o : Option Op) (q : Row) → option_map row_of o ≡ Some q → fits q.layout (t ∷ r ∷ os) ≡ true → fits_op o (t ∷ r ∷ os) ≡ true
   fits_at None q e d = absurd (cc e)
   fits_at (Some op) q e d = ap (λ (y : Row). fits y.layout (t ∷ r ∷ os)) (some_row (row_of op) q e) ∙ d
+
+-- what computes words and truths makes no event
+made_by : (code : List Instr) (places : Places) (op : Op) (os : List ℕ) (result operands : ValueSort) → (row_of op).asks ≡ Makes result operands
+    → marks_in code places op os ≡ []
+made_by code places OpLoad os x y e = absurd (cc e)
+made_by code places OpStore os x y e = absurd (cc e)
+made_by code places OpControlBarrier os x y e = absurd (cc e)
+made_by code places OpMemoryBarrier os x y e = absurd (cc e)
+made_by code places OpAtomicExchange os x y e = absurd (cc e)
+made_by code places OpAtomicCompareExchange os x y e = absurd (cc e)
+made_by code places OpAtomicIAdd os x y e = absurd (cc e)
+made_by code places OpAtomicISub os x y e = absurd (cc e)
+made_by code places OpAtomicSMin os x y e = absurd (cc e)
+made_by code places OpAtomicUMin os x y e = absurd (cc e)
+made_by code places OpAtomicSMax os x y e = absurd (cc e)
+made_by code places OpAtomicUMax os x y e = absurd (cc e)
+made_by code places OpAtomicAnd os x y e = absurd (cc e)
+made_by code places OpAtomicOr os x y e = absurd (cc e)
+made_by code places OpAtomicXor os x y e = absurd (cc e)
+made_by code places OpLoopMerge os x y e = absurd (cc e)
+made_by code places OpLabel os x y e = absurd (cc e)
+made_by code places OpSwitch os x y e = absurd (cc e)
+made_by code places op os x y e = refl
+
+made_quiet : (code : List Instr) (places : Places) (os : List ℕ) (o : Option Op) (result operands : ValueSort) → asks_by o ≡ Makes result operands
+    → marks_of_op code places o os ≡ []
+made_quiet code places os None x y e = refl
+made_quiet code places os (Some op) x y e = made_by code places op os x y e
 
 pub fits_row : (n t r : ℕ) (os : List ℕ) (parts : List Part) (result operands : ValueSort) → row_at n ≡ Some (computes n parts result operands)
     → fits (value_from parts) (t ∷ r ∷ os) ≡ true → nat_lt (length (t ∷ r ∷ os)) 65535 ≡ true → IsTrue (is_instr (instr n (t ∷ r ∷ os)))
@@ -120,6 +155,9 @@ module _ (a d : Emission) (n t r : ℕ) (os : List ℕ) (parts : List Part) (res
       (plain_at t r os (op_of n) (computes n parts result operands) row refl refl) h
       (λ z comp k is. subst (λ q. TakesBy z.names k q (ids_of (instr n (t ∷ r ∷ os))).uses (t ∷ r ∷ os))
       (sym (asks_at t r os (op_of n) (computes n parts result operands) row)) (comp.has (AType (type_for result)) t has, takes z k is))
+      (own_at t r os (op_of n) (computes n parts result operands) parts row refl)
+      (λ z places is. made_quiet z.machine.code places (t ∷ r ∷ os) (op_of n) result operands
+      (asks_at t r os (op_of n) (computes n parts result operands) row))
       (λ z comp s u vs ws at v mir e.
       let g = and_then_ok (computed_by (op_of n) vs) _ ws e in
       (g.0, sym (ok_same _ _ g.2), acts z s _ comp.whole at ∙ by z.machine s vs g.0 (op_of n) v g.1)) where
@@ -194,7 +232,7 @@ pub choose_gives : (a d : Emission) (t r c x y : ℕ) → Has a.symbols.entries 
     → Adds a d (instr 169 (t ∷ r ∷ c ∷ x ∷ y ∷ [])) r → Gives a d (a_truth c ∷ a_word x ∷ a_word y ∷ []) (a_word r ∷ []) choosing
 choose_gives a d t r c x y has h =
     added_gives a d (instr 169 (t ∷ r ∷ c ∷ x ∷ y ∷ [])) r t symbol.Word (a_truth c ∷ a_word x ∷ a_word y ∷ []) choosing refl has (refl, refl) h
-    (λ z comp k is. (comp.has (AType symbol.Word) t has, is.0, (is.1.0, (is.1.1.0, tt))))
+    (λ z comp k is. (comp.has (AType symbol.Word) t has, is.0, (is.1.0, (is.1.1.0, tt)))) (inl refl) (λ z places is. refl)
     (λ z comp s u vs ws at v mir e.
     let g = and_then_ok (chosen vs) _ ws e in
     (g.0, sym (ok_same _ _ g.2), acts z s _ comp.whole at ∙ by z.machine s vs g.0 v g.1)) where
@@ -211,7 +249,7 @@ pub find_gives : (a d : Emission) (t r set n x : ℕ) → Has a.symbols.entries 
     → Adds a d (instr 12 (t ∷ r ∷ set ∷ n ∷ x ∷ [])) r → Gives a d (a_word x ∷ []) (a_word r ∷ []) (finding n)
 find_gives a d t r set n x has import h =
     added_gives a d (instr 12 (t ∷ r ∷ set ∷ n ∷ x ∷ [])) r t symbol.Word (a_word x ∷ []) (finding n) refl has (refl, refl) h
-    (λ z comp k is. (comp.has (AType symbol.Word) t has, comp.has Import set import, (is.0, tt)))
+    (λ z comp k is. (comp.has (AType symbol.Word) t has, comp.has Import set import, (is.0, tt))) (inl refl) (λ z places is. refl)
     (λ z comp s u vs ws at v mir e.
     let g = and_then_ok (found n vs) _ ws e in
     (g.0, sym (ok_same _ _ g.2), acts z s _ comp.whole at ∙ by z.machine s vs g.0 (comp.whole.sorts Import set (comp.has Import set import)) v g.1))
@@ -228,7 +266,7 @@ pub take_gives : (a d : Emission) (t r c k : ℕ) → k < 2 → Has a.symbols.en
     → Adds a d (instr 81 (t ∷ r ∷ c ∷ k ∷ [])) r → Gives a d (a_pair c ∷ []) (a_word r ∷ []) (taking k)
 take_gives a d t r c k lt has h =
     added_gives a d (instr 81 (t ∷ r ∷ c ∷ k ∷ [])) r t symbol.Word (a_pair c ∷ []) (taking k) refl has (refl, refl) h
-    (λ z comp l is. (comp.has (AType symbol.Word) t has, is.0, lt))
+    (λ z comp l is. (comp.has (AType symbol.Word) t has, is.0, lt)) (inl refl) (λ z places is. refl)
     (λ z comp s u vs ws at v mir e.
     let g = and_then_ok (part k vs) _ ws e in
     (g.0, sym (ok_same _ _ g.2), acts z s _ comp.whole at ∙ by z.machine s vs g.0 v g.1)) where

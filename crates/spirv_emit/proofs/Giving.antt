@@ -1,10 +1,13 @@
 -- Pieces of code one behind the other.
 use Rattle.std.proofs.Common.{◌≡◌, ℕ, zero, suc, ◌≤◌, inl, inr, List, [], ◌∷◌, ◌++◌, Option, Some, refl, sym, ap, ◌∙◌, subst, arith}
 use Rattle.std.specs.Prelude.{slice_get, Ok, Err}
+use Rattle.word_base.specs.declared.event.Room.{Room}
 use Rattle.kept_values.specs.declared.word.Word.{Word as Kept}
 use Rattle.kept_values.specs.Tables.{Table, id_in}
 use Rattle.shader_tree.specs.Values.{Words}
 use Rattle.shader_tree.specs.Holding.{HoldWords}
+use Rattle.spirv_words.specs.Globals.{Places}
+use Rattle.spirv_words.specs.Ids.{ids_of}
 use Rattle.spirv_words.specs.Text.{Instr}
 use Rattle.spirv_words.specs.Values.{Value, Got, and_then}
 use Rattle.spirv_words.specs.Lane.{State, step, sets, with_value}
@@ -18,9 +21,13 @@ use Rattle.spirv_emit.specs.Emission.{Emission, Frame, next_of}
 use Rattle.spirv_emit.specs.Code.{In, Typed, typed, typed_result, IsPlain, ArePlain, known_by, known_behind, behind, IsOf, IsTyped, Covers, CoversKept, type_of_symbol}
 use Rattle.spirv_emit.specs.Lanes.{Site, Mirrors, meaning, Stands}
 use Rattle.spirv_emit.specs.Growing.{Grows, Completes}
-use Rattle.spirv_emit.specs.Values.{Slot, slot, AreValues, AreBelow, AreKnown, Runs, Reaches, Knowing, Meaning, Gives}
+use Rattle.spirv_emit.specs.Linked.{IsLinked, StandsIn}
+use Rattle.spirv_emit.specs.ModuleShape.{marks_of, pointer_room}
+use Rattle.spirv_emit.specs.Values.{Slot, slot, AreValues, AreBelow, AreKnown, HaveClasses, Runs, Reaches, Knowing, Quiet, Meaning, Gives}
 use Rattle.spirv_emit.specs.Joins.{at_place, with_item, picked, given, always, joined, only}
 use Rattle.spirv_emit.specs.Steps.{Named, Adds}
+use Rattle.spirv_emit.proofs.Links as links
+use Rattle.spirv_emit.proofs.Links.{quiet_both, shape_one, classes_append, classes_picked, value_sort, value_class, symbol_class}
 use Rattle.spirv_emit.proofs.Lists.{in_back, each_append, behind_append, typed_append}
 use Rattle.spirv_emit.proofs.Growth.{grows_on, completes_back, apart, add_grows, at_same, at_other, runs_none, runs_on, runs_one, stands_front, stands_back, one_defines}
 
@@ -130,6 +137,7 @@ nothing_gives a b xs g kept = record {
   plain = tt;
   below = λ l. below_up (next_of a) (next_of b) xs g.next l;
   known = λ z comp gl k cover keeps is. record { typed = tt; kept = subst (λ t. CoversKept z.names t k) (sym kept) keeps; results = is };
+  quiet = λ z places comp linked here is. record { none = refl; classes = is };
   law = λ z comp l s t vs ws st v e. record {
     to = s;
     runs = runs_none z s;
@@ -137,6 +145,11 @@ nothing_gives a b xs g kept = record {
     values = subst (AreValues s.values xs) (ok_same vs ws e) v;
   };
 }
+
+-- in a finished module the id is a pointer that leads to the room
+abbrev pub Leads : (a b : Emission) (xs rs : List Slot) (f : Meaning) → Gives a b xs rs f → Room → ℕ → Type 0
+Leads a b xs rs f g room p =
+    (z : Site) (places : Places) → Completes b z → IsLinked z places → StandsIn z g.seg → pointer_room z.machine.code places p ≡ Some room
 
 -- ONE BEHIND THE OTHER.
 module _ (a b c : Emission) (xs ys zs ws : List Slot) (f h : Meaning) (ps : List ℕ) (x : Gives a b xs ys f) (y : Gives b c zs ws h)
@@ -155,6 +168,17 @@ module _ (a b c : Emission) (xs ys zs ws : List Slot) (f h : Meaning) (ps : List
         results = subst (λ l. AreKnown z.names l (ws ++ ys)) same
             (known_append z.names (behind g (behind g k x.seg) y.seg) ws ys q.results
             (known_stays z.names g (behind g k x.seg) y.seg ys y.plain p.results));
+      }
+
+  joined_quiet : (z : Site) (places : Places) → Completes c z → IsLinked z places → StandsIn z (x.seg ++ y.seg) → HaveClasses z.machine.code xs
+      → Quiet z places (x.seg ++ y.seg) (ws ++ ys)
+  joined_quiet z places comp linked here is =
+      let p = x.quiet z places (completes_back b c y.seg z y.grows comp) linked (links.stands_front z x.seg y.seg here) is in
+      let q = y.quiet z places comp linked (links.stands_back z x.seg y.seg here)
+      (subst (HaveClasses z.machine.code) e (classes_picked z.machine.code ps ys p.classes)) in
+      record {
+        none = quiet_both z.machine.code places x.seg y.seg p.none q.none;
+        classes = classes_append z.machine.code ws ys q.classes p.classes;
       }
 
   joined_law : (z : Site) → Completes c z → AreBelow (next_of a) xs → (s : State) (t : Words) (vs rs : List Value)
@@ -185,8 +209,19 @@ module _ (a b c : Emission) (xs ys zs ws : List Slot) (f h : Meaning) (ps : List
         (y.below (subst (AreBelow (next_of b)) e (below_picked (next_of b) ps ys (x.below l))))
         (below_up (next_of b) (next_of c) ys y.grows.next (x.below l));
     known = joined_known;
+    quiet = joined_quiet;
     law = joined_law;
   }
+
+  -- pointers of either piece
+  pub leads_front : (room : Room) (p : ℕ) → Leads a b xs ys f x room p → Leads a c xs (ws ++ ys) (joined f ps h) then' room p
+  unfolding then'
+  leads_front room p leads z places comp linked here =
+      leads z places (completes_back b c y.seg z y.grows comp) linked (links.stands_front z x.seg y.seg here)
+
+  pub leads_back : (room : Room) (p : ℕ) → Leads b c zs ws h y room p → Leads a c xs (ws ++ ys) (joined f ps h) then' room p
+  unfolding then'
+  leads_back room p leads z places comp linked here = leads z places comp linked (links.stands_back z x.seg y.seg here)
 
 -- some of the ids
 pub only_gives : (a b : Emission) (xs ys zs : List Slot) (f : Meaning) (ps : List ℕ) → Gives a b xs ys f → picked ps ys ≡ zs → Gives a b xs zs
@@ -204,6 +239,9 @@ only_gives a b xs ys zs f ps x e = record {
         results = subst (AreKnown z.names (behind g k x.seg)) e
             (known_picked z.names (behind g k x.seg) ps ys p.results);
       };
+  quiet = λ z places comp linked here is.
+      let p = x.quiet z places comp linked here is in
+      record { none = p.none; classes = subst (HaveClasses z.machine.code) e (classes_picked z.machine.code ps ys p.classes) };
   law = λ z comp l s t vs ws st v q.
       let m = and_then_ok (f z t vs) _ ws q in
       let r = x.law z comp l s t vs m.0 st v m.1 in
@@ -216,6 +254,11 @@ only_gives a b xs ys zs f ps x e = record {
       };
 }
 
+pub only_leads : (a b : Emission) (xs ys zs : List Slot) (f : Meaning) (ps : List ℕ) (x : Gives a b xs ys f) (e : picked ps ys ≡ zs) (room : Room)
+    (p : ℕ) → Leads a b xs ys f x room p → Leads a b xs zs (only ps f) (only_gives a b xs ys zs f ps x e) room p
+unfolding only_gives
+only_leads a b xs ys zs f ps x e room p leads = leads
+
 -- the same by another account of the values
 pub weaker : (a b : Emission) (xs ys : List Slot) (f h : Meaning)
     → ((z : Site) → Completes b z → (t : Words) → HoldWords t → (vs ws : List Value) → h z t vs ≡ Ok ws → f z t vs ≡ Ok ws)
@@ -226,8 +269,15 @@ weaker a b xs ys f h by x = record {
   plain = x.plain;
   below = x.below;
   known = x.known;
+  quiet = x.quiet;
   law = λ z comp l s t vs ws st v q. x.law z comp l s t vs ws st v (by z comp t st.words vs ws q);
 }
+
+pub weaker_leads : (a b : Emission) (xs ys : List Slot) (f h : Meaning)
+    (by : (z : Site) → Completes b z → (t : Words) → HoldWords t → (vs ws : List Value) → h z t vs ≡ Ok ws → f z t vs ≡ Ok ws)
+    (x : Gives a b xs ys f) (room : Room) (p : ℕ) → Leads a b xs ys f x room p → Leads a b xs ys h (weaker a b xs ys f h by x) room p
+unfolding weaker
+weaker_leads a b xs ys f h by x room p leads = leads
 
 -- A SYMBOL'S ID has its meaning.
 pub named_gives : (a b : Emission) (s : Symbol) (r : ℕ) (v : Value) (type : TypeSymbol) → meaning s r ≡ Some v → type_of_symbol b.frame.context s ≡
@@ -242,6 +292,13 @@ named_gives a b s r v type m e n = record {
     typed = tt;
     kept = subst (λ t. CoversKept z.names t k) (sym n.kept) keeps;
     results = (cover s type r (comp.has s r n.has) (subst (λ (f : Frame). type_of_symbol f.context s ≡ Some type) comp.frame e), tt);
+  };
+  quiet = λ z places comp linked here is. record {
+    none = refl;
+    classes = (
+      symbol_class z places s r type linked (comp.has s r n.has) (subst (λ (f : Frame). type_of_symbol f.context s ≡ Some type) comp.frame e),
+      tt,
+    );
   };
   law = λ z comp l s' t vs ws st h q. record {
     to = s';
@@ -263,12 +320,13 @@ mirrors_value z table s t r v f h x = record {
 
 pub added_gives : (a d : Emission) (i : Instr) (r t : ℕ) (type : TypeSymbol) (xs : List Slot) (f : Meaning)
     → typed_result i ≡ typed r t ∷ [] → Has a.symbols.entries (AType type) t → IsPlain i → Adds a d i r
-    → ((z : Site) → Completes a z → (k : List Typed) → AreKnown z.names k xs → IsTyped z.names k i)
+    → ((z : Site) → Completes a z → (k : List Typed) → AreKnown z.names k xs → IsTyped z.names k i) → In (ids_of i).results r
+    → ((z : Site) (places : Places) → HaveClasses z.machine.code xs → marks_of z.machine.code places i ≡ [])
     → ((z : Site) → Completes a z → (s : State) (u : Words) (vs ws : List Value) → slice_get z.machine.code s.place ≡ Some i
     → AreValues s.values xs vs
     → Mirrors z a.kept s u → f z u vs ≡ Ok ws → (v : Value) × (ws ≡ v ∷ []) × (step z.machine s ≡ sets s r v))
     → Gives a d xs (slot r type ∷ []) f
-added_gives a d i r t type xs f e has plain h takes steps =
+added_gives a d i r t type xs f e has plain h takes own silent steps =
     let g = add_grows a d i r t e h in
     let back : (z : Site) → Completes d z → Completes a z = λ z comp. completes_back a d (i ∷ []) z g comp in
     record {
@@ -285,6 +343,13 @@ added_gives a d i r t type xs f e has plain h takes steps =
                 (o.0, o.1, subst (λ l. In l (typed id o.0)) (sym b) (inr o.2));
             results = ((t, (back z comp).has (AType type) t has, subst (λ l. In l (typed r t)) (sym b) (inl refl)), tt);
           };
+      quiet = λ z places comp linked here is. record {
+        none = shape_one z.machine.code places [] i [] refl (silent z places is);
+        classes = (
+          value_class z places i r t type linked ((back z comp).has (AType type) t has) (value_sort z places i r t linked here own e),
+          tt,
+        );
+      };
       law = λ z comp l s u vs ws st v q.
           let p = steps z (back z comp) s u vs ws st.here.0 v st.mirrors q in
           let to = with_value s r p.0 in
@@ -298,3 +363,16 @@ added_gives a d i r t type xs f e has plain h takes steps =
             values = subst (AreValues to.values (slot r type ∷ [])) (sym p.1) (at_same s.values r (Some p.0), tt);
           };
     }
+
+-- where its instruction is known
+pub added_here : (a d : Emission) (i : Instr) (r t : ℕ) (type : TypeSymbol) (xs : List Slot) (f : Meaning)
+    → typed_result i ≡ typed r t ∷ [] → Has a.symbols.entries (AType type) t → IsPlain i → Adds a d i r
+    → ((z : Site) → Completes a z → (k : List Typed) → AreKnown z.names k xs → IsTyped z.names k i) → In (ids_of i).results r
+    → ((z : Site) (places : Places) → HaveClasses z.machine.code xs → marks_of z.machine.code places i ≡ [])
+    → ((z : Site) → Completes a z → (s : State) (u : Words) (vs ws : List Value) → slice_get z.machine.code s.place ≡ Some i
+    → AreValues s.values xs vs
+    → Mirrors z a.kept s u → f z u vs ≡ Ok ws → (v : Value) × (ws ≡ v ∷ []) × (step z.machine s ≡ sets s r v))
+    → (g : Gives a d xs (slot r type ∷ []) f) × (g.seg ≡ i ∷ [])
+unfolding added_gives
+added_here a d i r t type xs f e has plain h takes own silent steps =
+    (added_gives a d i r t type xs f e has plain h takes own silent steps, refl)

@@ -14,7 +14,7 @@ use Rattle.spirv_symbols.specs.Tables.{Has}
 use Rattle.spirv_emit.specs.Emission.{Emission, next_of}
 use Rattle.spirv_emit.specs.Code.{In, values, Defines, typed_result, typed}
 use Rattle.spirv_emit.specs.Lanes.{Site, Mirrors, HasAt, Stands}
-use Rattle.spirv_emit.specs.Growing.{Same, Grows, Completes}
+use Rattle.spirv_emit.specs.Growing.{Same, Grows, Completes, globals_in}
 use Rattle.spirv_emit.specs.Values.{Runs}
 use Rattle.spirv_emit.specs.Steps.{Adds, Settled}
 use Rattle.spirv_emit.proofs.Lists.{code_front, code_back, defines_front, defines_back, defines_split, values_append, distinct_append, all_append}
@@ -45,6 +45,7 @@ grows_on a b c x y g h = record {
       (λ i p q. let f = g.fresh i p in let k = h.fresh i q in absurd (omega (arith, f.1, k.0))));
   has = λ n id k. h.has n id (g.has n id k);
   later = λ n id k. ⊎_elim (λ i. g.later n id i) (λ le. inr (omega (arith, le, g.next))) (h.later n id k);
+  globals = h.globals ∙ g.globals;
   fresh = λ id d. ⊎_elim
       (λ i. let f = g.fresh id i in (
         f.0,
@@ -83,6 +84,7 @@ grows_same a b same code entries next = record {
   distinct = refl;
   has = λ n id k. subst (λ l. Has l n id) (sym entries) k;
   later = λ n id k. inl (subst (λ l. Has l n id) entries k);
+  globals = ap globals_in entries;
   fresh = λ id d. absurd d;
 }
 
@@ -115,6 +117,7 @@ add_grows a b i r t e h = record {
   distinct = subst (λ l. IsTrue (are_distinct l)) (sym (values_one i r t e)) refl;
   has = λ n id k. subst (λ l. Has l n id) (sym h.entries) k;
   later = λ n id k. inl (subst (λ l. Has l n id) h.entries k);
+  globals = ap globals_in h.entries;
   fresh = λ id d.
       let q = defines_one i r t id e d in (
         omega (arith, q, h.result),

@@ -50,6 +50,7 @@ found_gives a w r used h e =
       plain = tt;
       below = λ l. (h.kept w r e, tt);
       known = λ z comp gl k cover keeps is. record { typed = tt; kept = keeps; results = (keeps w r e, tt) };
+      quiet = λ z places comp linked here is. record { none = refl; classes = (tt, tt) };
       law = λ z comp l s t vs ws st v q. record {
         to = s;
         runs = runs_none z s;
@@ -97,6 +98,7 @@ kept_gives a c d w r x h =
                 (λ n. p.kept v id (sym (h.keeps.other v n) ∙ i)) (word_differ v w);
             results = p.results;
           };
+      quiet = λ z places comp linked here is. x.quiet z places (completes_back c d [] z g1 comp) linked here is;
       law = λ z comp l s t vs ws st v q.
           let p = x.law z (completes_back c d [] z g1 comp) l s t vs ws st v q in
           let here : AreValues p.to.values (a_word r ∷ []) (value.Word (word_of t w) ∷ []) = subst (AreValues p.to.values (a_word r ∷ []))

@@ -30,6 +30,7 @@ use Rattle.spirv_emit.specs.Lanes.{Site, IsWhole, Mirrors, IsUsed, Holds, IsArra
 use Rattle.spirv_emit.specs.Steps.{Adds, Acts, IsPut, IsDropped, StoresTo}
 use Rattle.spirv_emit.specs.Reads.{written_array}
 use Rattle.spirv_emit.specs.Values.{Slot, slot, a_word, Meaning, Gives, valued}
+use Rattle.spirv_emit.proofs.Links.{store_quiet}
 use Rattle.spirv_emit.proofs.Giving.{then', only_gives, named_gives}
 use Rattle.spirv_emit.proofs.Growth.{at_same, settled_grows}
 use Rattle.spirv_emit.proofs.Memory.{IsArraySpace, array_for, IsAt, PutsWell, puts_well, StoresWell, stored, stored_cells, writes_well, word_other, element_other, written_here}
@@ -99,6 +100,7 @@ stored_register a b c k r x y literal separate g free h =
     stored_alters a m c c (ptr ∷ a_word r ∷ []) f (instr 62 (v ∷ r ∷ [])) both' h.acts
     (record { same = record { frame = refl; limit = refl; capacity = refl; limits = refl }; code = refl; symbols = refl }) refl (refl, refl)
     (λ z comp l keeps is. (((storage.Function, is.0, refl), is.1.0), λ o i q. keeps o i (subst (λ t. id_in t o ≡ Some i) h.acts.kept q)))
+    (λ z places is. store_quiet z places v r storage.Function is.0 refl)
     (Writes space.Temps x y)
     (λ z comp s t u mir e.
     let same : k ≡ e.0 = literal_is z t k e.0 (subst (λ l. IsValue z t l e.0) literal e.2) in
@@ -237,6 +239,7 @@ module _ (a b c d e f : Emission) (sp : Space) (at v p q t : ℕ) (x y : Term) (
         ((storage.Function, is.0, refl), is.1.0),
         λ o i w. keeps o i (subst (λ t. id_in t o ≡ Some i) act.kept (left_of e.kept f.kept o i drop.drops w)),
       ))
+      (λ z places is. store_quiet z places q v storage.Function is.0 refl)
       (Writes sp x y)
       (λ z comp s t u mir w.
       let frame : a.frame ≡ z.frame =
@@ -287,5 +290,6 @@ never_alters a sp x y never = record {
   grows = settled_grows a a (record { same = record { frame = refl; limit = refl; capacity = refl; limits = refl }; code = refl; symbols = refl });
   plain = tt;
   known = λ z comp gl k cover keeps. record { typed = tt; kept = keeps; results = tt };
+  quiet = λ z places comp linked here. refl;
   law = λ z comp s t u st w. absurd (cc (sym (never t.registers w.0 w.1) ∙ w.5));
 }

@@ -93,7 +93,7 @@ contains_by : (b : Bool) (y x : ℕ) (xs : List ℕ) → nat_eq y x ≡ b → Is
 contains_by true y x xs e h f = inl (grind (arith, nat_tests, e))
 contains_by false y x xs e h f = inr (f h)
 
-contains_in : (xs : List ℕ) (x : ℕ) → IsTrue (contains xs x) → In xs x
+pub contains_in : (xs : List ℕ) (x : ℕ) → IsTrue (contains xs x) → In xs x
 contains_in [] x h = absurd (cc h)
 contains_in (y ∷ xs) x h = contains_by (nat_eq y x) y x xs refl h (contains_in xs x)
 
@@ -101,11 +101,11 @@ not_true : (b : Bool) → (IsTrue b → ⊥) → IsTrue (not b)
 not_true true f = absurd (f refl)
 not_true false f = refl
 
-true_not : (b : Bool) → IsTrue (not b) → IsTrue b → ⊥
+pub true_not : (b : Bool) → IsTrue (not b) → IsTrue b → ⊥
 true_not true h k = cc h
 true_not false h k = cc k
 
-in_contains : (xs : List ℕ) (x : ℕ) → In xs x → IsTrue (contains xs x)
+pub in_contains : (xs : List ℕ) (x : ℕ) → In xs x → IsTrue (contains xs x)
 in_contains [] x h = absurd h
 in_contains (y ∷ xs) x (inl e) = let q : nat_eq y x ≡ true = grind (arith, nat_tests, e) in rw q refl
 in_contains (y ∷ xs) x (inr h) = or_back (nat_eq y x) (contains xs x) (in_contains xs x h) where

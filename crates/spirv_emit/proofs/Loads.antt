@@ -1,5 +1,6 @@
 -- Access chains and loads as instructions.
-use Rattle.std.proofs.Common.{◌≡◌, ℕ, ◌+◌, ◌*◌, List, [], ◌∷◌, Some, refl, sym, ap, ◌∙◌, subst}
+use Rattle.std.proofs.Common.{◌≡◌, ℕ, ◌+◌, ◌*◌, inl, List, [], ◌∷◌, Some, refl, sym, ap, ◌∙◌, subst, arith}
+use Rattle.std.proofs.lemmas.Bool.Decides.{nat_tests}
 use Rattle.std.specs.Prelude.{Ok, nat_lt, ◌&&◌, ◌||◌, true, false, Bool, slice_get, IsTrue}
 use Rattle.word_base.specs.declared.event.Room.{Room}
 use Rattle.shader_tree.specs.Values.{Words}
@@ -25,6 +26,7 @@ use Rattle.spirv_emit.specs.Lanes.{Site, IsWhole, Mirrors, meaning}
 use Rattle.spirv_emit.specs.Reads.{inside, within, points, points_inside, within_vector, points_in_vector, given_at, given_word, extent_of}
 use Rattle.spirv_emit.specs.Steps.{Adds}
 use Rattle.spirv_emit.specs.Values.{slot, a_word, AreValues, Meaning, Gives}
+use Rattle.spirv_emit.proofs.Links.{load_quiet}
 use Rattle.spirv_emit.proofs.Forms.{acts}
 use Rattle.spirv_emit.proofs.Giving.{and_then_ok, ok_same, added_gives}
 use Rattle.spirv_emit.proofs.Values.{word_is, both_ok}
@@ -72,7 +74,7 @@ module _ (a d : Emission) (s : Symbol) (class t r p : ℕ) (pointer : TypeSymbol
   chain_gives x h leads leads_to =
       added_gives a d (instr 65 (t ∷ r ∷ p ∷ x ∷ [])) r t (type.WordPointer class) (slot p pointer ∷ a_word x ∷ []) (points size at) refl typed
       (refl, refl) h
-      (λ z comp k is. (class, pointer, comp.has _ t typed, is.0, leads z k is.1.0))
+      (λ z comp k is. (class, pointer, comp.has _ t typed, is.0, leads z k is.1.0)) (inl refl) (λ z places is. refl)
       (λ z comp q w vs ws place v mir e. by z comp q w vs ws place v mir e) where
         by : (z : Site) → Completes a z → (q : State) (w : Words) (vs ws : List Value) → slice_get z.machine.code q.place ≡ Some
             (instr 65 (t ∷ r ∷ p ∷ x ∷ []))
@@ -100,7 +102,7 @@ module _ (a d : Emission) (s : Symbol) (class t r p : ℕ) (pointer : TypeSymbol
   chain_inside_gives n x zero' h leads leads_to =
       added_gives a d (instr 65 (t ∷ r ∷ p ∷ n ∷ x ∷ [])) r t (type.WordPointer class) (slot p pointer ∷ a_word n ∷ a_word x ∷ [])
       (points_inside size at) refl typed (refl, refl) h
-      (λ z comp k is. (class, pointer, comp.has _ t typed, is.0, leads z k (comp.has _ n zero') is.1.0 is.1.1.0))
+      (λ z comp k is. (class, pointer, comp.has _ t typed, is.0, leads z k (comp.has _ n zero') is.1.0 is.1.1.0)) (inl refl) (λ z places is. refl)
       (λ z comp q w vs ws place v mir e. by z comp q w vs ws place v mir e) where
         by : (z : Site) → Completes a z → (q : State) (w : Words) (vs ws : List Value) → slice_get z.machine.code q.place ≡ Some
             (instr 65 (t ∷ r ∷ p ∷ n ∷ x ∷ []))
@@ -130,7 +132,8 @@ module _ (a d : Emission) (s : Symbol) (class t r p : ℕ) (pointer : TypeSymbol
   chain_vector_gives n x y zero' h leads leads_to =
       added_gives a d (instr 65 (t ∷ r ∷ p ∷ n ∷ x ∷ y ∷ [])) r t (type.WordPointer class) (slot p pointer ∷ a_word n ∷ a_word x ∷ a_word y ∷ [])
       (points_in_vector size at) refl typed (refl, refl) h
-      (λ z comp k is. (class, pointer, comp.has _ t typed, is.0, leads z k (comp.has _ n zero') is.1.0 is.1.1.0 is.1.1.1.0))
+      (λ z comp k is. (class, pointer, comp.has _ t typed, is.0, leads z k (comp.has _ n zero') is.1.0 is.1.1.0 is.1.1.1.0)) (inl refl)
+      (λ z places is. refl)
       (λ z comp q w vs ws place v mir e. by z comp q w vs ws place v mir e) where
         by : (z : Site) → Completes a z → (q : State) (w : Words) (vs ws : List Value) → slice_get z.machine.code q.place ≡ Some
             (instr 65 (t ∷ r ∷ p ∷ n ∷ x ∷ y ∷ []))
@@ -164,6 +167,9 @@ is_loaded_given class h = by (has_events class) (is_own class) (is_given class) 
   by false true c h = refl
   by false false c h = h
 
+given_quiet : (class : ℕ) → IsTrue (is_given class) → has_events class ≡ false
+given_quiet class h = grind (arith, nat_tests)
+
 loads_given : (z : Site) (q : State) (t r p : ℕ) (l : Value) (w : ℕ) → sort_of z.machine.code t ≡ sort.Words → q.values p ≡ Some l
     → given_at z.machine l ≡ Ok w
     → act z.machine q OpLoad (t ∷ r ∷ p ∷ []) ≡ sets q r (Word w)
@@ -181,7 +187,8 @@ pub given_gives : (a d : Emission) (class t r p : ℕ) → IsTrue (is_given clas
     → Adds a d (instr 61 (t ∷ r ∷ p ∷ [])) r → Gives a d (slot p (type.WordPointer class) ∷ []) (a_word r ∷ []) given_word
 given_gives a d class t r p given' has h =
     added_gives a d (instr 61 (t ∷ r ∷ p ∷ [])) r t type.Word (slot p (type.WordPointer class) ∷ []) given_word refl has (refl, refl) h
-    (λ z comp k is. (comp.has _ t has, (class, is.0, is_loaded_given class given')))
+    (λ z comp k is. (comp.has _ t has, (class, is.0, is_loaded_given class given'))) (inl refl)
+    (λ z places is. load_quiet z places t r p class is.0 (given_quiet class given'))
     (λ z comp q w vs ws place v mir e. by z comp q w vs ws place v mir e) where
       by : (z : Site) → Completes a z → (q : State) (w : Words) (vs ws : List Value) → slice_get z.machine.code q.place ≡ Some
           (instr 61 (t ∷ r ∷ p ∷ []))
@@ -210,7 +217,8 @@ pub variable_gives : (a d : Emission) (s : Symbol) (t r p : ℕ) (f : Meaning) �
     → Gives a d (slot p (type.WordPointer storage.Function) ∷ []) (a_word r ∷ []) f
 variable_gives a d s t r p f here named has h from =
     added_gives a d (instr 61 (t ∷ r ∷ p ∷ [])) r t type.Word (slot p (type.WordPointer storage.Function) ∷ []) f refl has (refl, refl) h
-    (λ z comp k is. (comp.has _ t has, (storage.Function, is.0, refl)))
+    (λ z comp k is. (comp.has _ t has, (storage.Function, is.0, refl))) (inl refl)
+    (λ z places is. load_quiet z places t r p storage.Function is.0 refl)
     (λ z comp q w vs ws place v mir e.
     let g = from z comp q w vs ws mir e in (
       Word g.0,
@@ -227,7 +235,8 @@ pub array_gives : (a d : Emission) (s : Symbol) (t r p q : ℕ) (f : Meaning) �
     → Gives a d (slot q (type.WordPointer storage.Function) ∷ []) (a_word r ∷ []) f
 array_gives a d s t r p q f named has h from =
     added_gives a d (instr 61 (t ∷ r ∷ q ∷ [])) r t type.Word (slot q (type.WordPointer storage.Function) ∷ []) f refl has (refl, refl) h
-    (λ z comp k is. (comp.has _ t has, (storage.Function, is.0, refl)))
+    (λ z comp k is. (comp.has _ t has, (storage.Function, is.0, refl))) (inl refl)
+    (λ z places is. load_quiet z places t r q storage.Function is.0 refl)
     (λ z comp o w vs ws place v mir e.
     let g = from z comp o w vs ws mir e in
     let here : AreValues o.values (slot q (type.WordPointer storage.Function) ∷ []) (AtLocal p g.0 ∷ []) =
@@ -244,7 +253,7 @@ pub length_gives : (a d : Emission) (room : Room) (access : Access) (t r p : ℕ
     → Gives a d (slot p (type.ViewPointer access) ∷ []) (a_word r ∷ []) (extent_of room)
 length_gives a d room access t r p named has h =
     added_gives a d (instr 68 (t ∷ r ∷ p ∷ 0 ∷ [])) r t type.Word (slot p (type.ViewPointer access) ∷ []) (extent_of room) refl has (refl, refl) h
-    (λ z comp k is. (comp.has _ t has, (access, is.0), refl))
+    (λ z comp k is. (comp.has _ t has, (access, is.0), refl)) (inl refl) (λ z places is. refl)
     (λ z comp q w vs ws place v mir e. (
       Word (z.machine.setting.extent room),
       sym (ok_same _ _ e),

@@ -11,7 +11,9 @@ use Rattle.shader_tree.specs.Nodes.{Sort, AWord, ATruth, AStatement, Name, named
 use Rattle.shader_tree.specs.Terms.{Term, Nothing, term_by, term_for, term_within, term_at, Stands, AreEarlier}
 use Rattle.shader_tree.specs.Walks.{folded, holds_no, Each, spaces_in, rooms_in, threads_in, spaces_at, rooms_at, threads_at}
 use Rattle.spirv_symbols.specs.declared.symbol.Symbol.{Symbol}
-use Rattle.spirv_symbols.specs.declared.symbol.Symbol.TheVariants.{Memory, Input, Registers, Elements, ImmediateArray}
+use Rattle.binding_map.specs.declared.register.Place.{Place}
+use Rattle.binding_map.specs.declared.register.Place.TheVariants.{Bound, Push as InPush}
+use Rattle.spirv_symbols.specs.declared.symbol.Symbol.TheVariants.{Memory, Input, Uniform, Push, Registers, Elements, ImmediateArray}
 use Rattle.word_base.specs.declared.event.Room.{Room}
 use Rattle.tpf_decode.specs.declared.argument.Kind.{Kind}
 use Rattle.spirv_symbols.specs.declared.symbol.TypeSymbol.{TypeSymbol}
@@ -20,7 +22,7 @@ use Rattle.spirv_words.specs.Text.{Instr}
 use Rattle.spirv_emit.specs.declared.buffer.ConstantBuffer.{ConstantBuffer}
 use Rattle.shader_tree.specs.declared.node.Space.{Space}
 use Rattle.shader_tree.specs.declared.node.Space.TheVariants as space
-use Rattle.spirv_emit.specs.Begun.{IsBegun, IsThere, IsBufferThere, IsSpaceThere, Names, is_searched, place_symbol, built_in_of}
+use Rattle.spirv_emit.specs.Begun.{IsBegun, IsThere, IsBufferThere, IsPlaceThere, IsSpaceThere, Names, is_searched, built_in_of}
 use Rattle.spirv_emit.specs.Emission.{Emission, Frame, words_left, ids_left, buffer_of}
 use Rattle.spirv_emit.specs.Expressions.{May, Did}
 use Rattle.spirv_emit.specs.Growing.{Grows}
@@ -103,9 +105,13 @@ module _ (a b : Emission) (seg : List Instr) (g : Grows a b seg) where
   there_stays : (s : Symbol) → IsThere a.symbols.entries s → IsThere b.symbols.entries s
   there_stays s h = (h.0, g.has s h.0 h.1)
 
+  place_stays : (slot : ℕ) (place : Place) → IsPlaceThere a.symbols.entries slot place → IsPlaceThere b.symbols.entries slot place
+  place_stays slot (Bound set binding) h = there_stays (Uniform slot) h
+  place_stays slot (InPush first count) h = λ lt. there_stays Push (h lt)
+
   buffer_stays : (x : Option ConstantBuffer) → IsBufferThere a.symbols.entries x → IsBufferThere b.symbols.entries x
   buffer_stays None h = h
-  buffer_stays (Some x) h = there_stays (place_symbol x.slot x.place) h
+  buffer_stays (Some x) h = place_stays x.slot x.place h
 
   pub space_stays : (s : Space) → IsSpaceThere a s → IsSpaceThere b s
   space_stays space.Temps h = λ q. there_stays Registers (h (ap (λ f. f.separate) (sym g.same.frame) ∙ q))

@@ -1,5 +1,5 @@
 -- Steps of the writing: what every emitter keeps, and the room that is left.
-use Rattle.std.proofs.Common.{◌≡◌, ℕ, zero, suc, ◌+◌, ◌<◌, ◌≤◌, ◌⊎◌, ⊎_elim, inl, inr, List, [], ◌∷◌, ◌++◌, length, Some, refl, sym, ap, ◌∙◌, subst, arith, length-append, append-nil}
+use Rattle.std.proofs.Common.{◌≡◌, ℕ, zero, suc, ◌+◌, ◌<◌, ◌≤◌, ◌⊎◌, ⊎_elim, inl, inr, false, List, [], ◌∷◌, ◌++◌, length, Some, refl, sym, ap, ◌∙◌, subst, arith, length-append, append-nil}
 use Rattle.std.specs.Prelude.{slice_get, map, IsTrue, nat_lt}
 use Rattle.std.specs.List.{sum}
 use Rattle.std.proofs.lemmas.Bool.Decides.{nat_tests}
@@ -14,13 +14,18 @@ use Rattle.spirv_symbols.specs.Tables.{Table, Has, IsTable, Stands, Extends, Put
 use Rattle.spirv_symbols.specs.Tables as symbols
 use Rattle.spirv_emit.specs.Begun.{IsBegun, IsThere, AreFixed}
 use Rattle.spirv_emit.specs.Emission.{Emission, next_of, words_used, ids_used, words_left, ids_left, waiting_words, waiting_ids}
-use Rattle.spirv_emit.specs.Growing.{Same}
+use Rattle.spirv_emit.specs.Growing.{Same, is_global}
 use Rattle.spirv_emit.specs.Steps.{Named}
 use Rattle.spirv_emit.proofs.Lists.{and_right}
+use Rattle.spirv_emit.proofs.Locals.{put_local}
 
 pub id_room : (a : Emission) → 1 ≤ ids_left a → next_of a < a.symbols.limit
 unfolding ids_left
 id_room a h = omega (arith, h)
+
+pub ids_room : (a : Emission) (n : ℕ) → n ≤ ids_left a → ids_used a ≤ a.symbols.limit → next_of a + n ≤ a.symbols.limit
+unfolding ids_left
+ids_room a n h k = omega (arith, h, k)
 
 pub word_room : (a : Emission) (n : ℕ) → n ≤ words_left a → 1 ≤ n → length a.code.list + n ≤ a.code.capacity
 unfolding words_left
@@ -119,7 +124,7 @@ has_back t u s id x h =
     let e = symbols.entry s id in
     ⊎_elim (λ q. inl (h.0, q)) (λ q. inr (x.later q.0 e q.1)) (get_split t.entries x.more h.0 e (subst (λ l. slice_get l h.0 ≡ Some e) x.list h.1))
 
-there_on : (t u : Table) (s : Symbol) → Extends t u → IsThere t.entries s → IsThere u.entries s
+pub there_on : (t u : Table) (s : Symbol) → Extends t u → IsThere t.entries s → IsThere u.entries s
 there_on t u s x h = (h.0, has_front t u s h.0 x h.1)
 
 pub fixed_on : (t u : Table) → Extends t u → AreFixed t.entries → AreFixed u.entries
@@ -145,21 +150,62 @@ fixed_on t u x h = record {
   label = there_on t u _ x h.label;
 }
 
+-- Only the table of symbols grew, by so many words and ids.
+module _ (a b : Emission) (frame : b.frame ≡ a.frame) (code : b.code ≡ a.code) (kept : b.kept ≡ a.kept) (n k : ℕ)
+    (stands : Stands a.frame.context b.symbols) (extends : Extends a.symbols b.symbols) (next : next_of b ≤ next_of a + k)
+    (weights : weight a.frame.context b.symbols.entries ≤ weight a.frame.context a.symbols.entries + n) where
+  table_weight : weight b.frame.context b.symbols.entries ≤ weight a.frame.context a.symbols.entries + n
+  table_weight = subst (λ f. weight f.context b.symbols.entries ≤ weight a.frame.context a.symbols.entries + n) (sym frame) weights
+
+  table_length : length b.code.list ≡ length a.code.list
+  table_length = ap (λ p. length p.list) code
+
+  table_capacity : b.code.capacity ≡ a.code.capacity
+  table_capacity = ap (λ p. p.capacity) code
+
+  table_dirty : (f : Kept → ℕ) → sum (map f (dirty_in b.kept)) ≡ sum (map f (dirty_in a.kept))
+  table_dirty f = ap (λ k. sum (map f (dirty_in k))) kept
+
+  pub table_words : words_left a ≤ words_left b + n
+  unfolding words_left
+  table_words = omega (arith, table_weight, table_length, table_capacity, table_dirty waiting_words)
+
+  pub table_ids : ids_left a ≤ ids_left b + k
+  unfolding ids_left
+  table_ids = omega (arith, next, extends.limit', table_dirty waiting_ids)
+
+  table_fits_words : n ≤ words_left a → words_used a ≤ a.code.capacity → words_used b ≤ b.code.capacity
+  unfolding words_left
+  table_fits_words l h = omega (arith, l, h, table_weight, table_length, table_capacity, table_dirty waiting_words)
+
+  table_fits_ids : k ≤ ids_left a → ids_used a ≤ a.symbols.limit → ids_used b ≤ b.symbols.limit
+  unfolding ids_left
+  table_fits_ids l h = omega (arith, l, h, next, extends.limit', table_dirty waiting_ids)
+
+  pub table_begun : n ≤ words_left a → k ≤ ids_left a → IsBegun a → IsBegun b
+  table_begun words ids h = record {
+    table = subst (λ f. Stands f.context b.symbols) (sym frame) stands;
+    kept = λ w id q. let lt = h.kept w id (subst (λ t. id_in t w ≡ Some id) kept q) in omega (arith, lt, extends.next');
+    fixed = fixed_on a.symbols b.symbols extends h.fixed;
+    stored = ap elements_in kept ∙ h.stored;
+    words' = table_fits_words words h.words';
+    ids' = table_fits_ids ids h.ids';
+  }
+
+-- A symbol was found or made.
 module _ (a b : Emission) (s : Symbol) (r : ℕ) (frame : b.frame ≡ a.frame) (code : b.code ≡ a.code) (kept : b.kept ≡ a.kept)
     (puts : Puts a.frame.context a.symbols b.symbols s r) where
-  named_same : Same a b
-  named_same = record { frame = frame; limit = puts.extends.limit'; capacity = ap (λ p. p.capacity) code; limits = ap limits_in kept }
-
-  pub named_step : Named a b s r
-  named_step = record {
+  pub named_step : is_global s ≡ false → Named a b s r
+  named_step own = record {
     grows = record {
-      same = named_same;
+      same = record { frame = frame; limit = puts.extends.limit'; capacity = ap (λ p. p.capacity) code; limits = ap limits_in kept };
       next = puts.extends.next';
       code = ap (λ p. p.list) code ∙ sym (append-nil a.code.list);
       instructions = refl;
       distinct = refl;
       has = λ y id h. has_front a.symbols b.symbols y id puts.extends h;
       later = λ y id h. has_back a.symbols b.symbols y id puts.extends h;
+      globals = put_local a.frame.context a.symbols b.symbols s r puts own;
       fresh = λ id d. absurd d;
     };
     has = puts.here;
@@ -167,44 +213,14 @@ module _ (a b : Emission) (s : Symbol) (r : ℕ) (frame : b.frame ≡ a.frame) (
     kept = kept;
   }
 
-  named_weight : weight b.frame.context b.symbols.entries ≤ weight a.frame.context a.symbols.entries + words_of a.frame.context s
-  named_weight = subst (λ f. weight f.context b.symbols.entries ≤ weight a.frame.context a.symbols.entries + words_of a.frame.context s)
-      (sym frame) puts.words
-
-  named_length : length b.code.list ≡ length a.code.list
-  named_length = ap (λ p. length p.list) code
-
-  named_capacity : b.code.capacity ≡ a.code.capacity
-  named_capacity = ap (λ p. p.capacity) code
-
-  named_dirty : (f : Kept → ℕ) → sum (map f (dirty_in b.kept)) ≡ sum (map f (dirty_in a.kept))
-  named_dirty f = ap (λ k. sum (map f (dirty_in k))) kept
-
   pub named_words : words_left a ≤ words_left b + words_of a.frame.context s
-  unfolding words_left
-  named_words = omega (arith, named_weight, named_length, named_capacity, named_dirty waiting_words)
+  named_words = table_words a b frame code kept (words_of a.frame.context s) 1 puts.stands puts.extends puts.ids puts.words
 
   pub named_ids : ids_left a ≤ ids_left b + 1
-  unfolding ids_left
-  named_ids = omega (arith, puts.ids, puts.extends.limit', named_dirty waiting_ids)
-
-  named_fits_words : words_of a.frame.context s ≤ words_left a → words_used a ≤ a.code.capacity → words_used b ≤ b.code.capacity
-  unfolding words_left
-  named_fits_words l h = omega (arith, l, h, named_weight, named_length, named_capacity, named_dirty waiting_words)
-
-  named_fits_ids : 1 ≤ ids_left a → ids_used a ≤ a.symbols.limit → ids_used b ≤ b.symbols.limit
-  unfolding ids_left
-  named_fits_ids l h = omega (arith, l, h, puts.ids, puts.extends.limit', named_dirty waiting_ids)
+  named_ids = table_ids a b frame code kept (words_of a.frame.context s) 1 puts.stands puts.extends puts.ids puts.words
 
   pub named_begun : words_of a.frame.context s ≤ words_left a → 1 ≤ ids_left a → IsBegun a → IsBegun b
-  named_begun words ids h = record {
-    table = subst (λ f. Stands f.context b.symbols) (sym frame) puts.stands;
-    kept = λ w id q. let lt = h.kept w id (subst (λ t. id_in t w ≡ Some id) kept q) in omega (arith, lt, puts.extends.next');
-    fixed = fixed_on a.symbols b.symbols puts.extends h.fixed;
-    stored = ap elements_in kept ∙ h.stored;
-    words' = named_fits_words words h.words';
-    ids' = named_fits_ids ids h.ids';
-  }
+  named_begun = table_begun a b frame code kept (words_of a.frame.context s) 1 puts.stands puts.extends puts.ids puts.words
 
 -- WORDS OF THE LANE that got an id.
 module _ (a b : Emission) (w : Kept) (id : ℕ) (frame : b.frame ≡ a.frame) (symbols : b.symbols ≡ a.symbols) (code : b.code ≡ a.code)

@@ -1,11 +1,12 @@
 -- Pointers to words of arrays of the lane and of rooms.
-use Rattle.std.proofs.Common.{◌≡◌, ℕ, ◌+◌, ◌-◌, ◌*◌, ◌/◌, ◌<◌, List, [], ◌∷◌, Some, refl, sym, ap, ◌∙◌, subst, arith, Bool, true, false}
+use Rattle.std.proofs.Common.{◌≡◌, ℕ, ◌+◌, ◌-◌, ◌*◌, ◌/◌, ◌<◌, inl, List, [], ◌∷◌, Some, refl, sym, ap, ◌∙◌, subst, arith, Bool, true, false}
 use Rattle.std.specs.Prelude.{slice_get, nat_lt, Ok, Err}
 use Rattle.std.proofs.lemmas.Bool.{ltb-true, lt-ltb}
 use Rattle.word_base.specs.declared.event.Room.{Room}
 use Rattle.word_base.specs.declared.event.Room.TheVariants as room
 use Rattle.spirv_words.specs.StorageClass as storage
 use Rattle.spirv_words.specs.Decoration.{ArrayStride, Offset}
+use Rattle.spirv_words.specs.Ids.{ids_of}
 use Rattle.spirv_words.specs.Text.{instr}
 use Rattle.spirv_words.specs.Sorts.{Pointer, Array, RuntimeArray, Struct, Words, sort_of}
 use Rattle.spirv_words.specs.Values.{Value, Word, Truth, NoParts, Part, AtLocal, AtRoom, AtConstants, AtPush, AtInput, Got}
@@ -25,14 +26,17 @@ use Rattle.spirv_symbols.specs.declared.symbol.TypeSymbol.{TypeSymbol}
 use Rattle.spirv_emit.specs.Emission.{Emission}
 use Rattle.spirv_emit.specs.Begun.{IsBegun}
 use Rattle.spirv_emit.specs.Joins.{given, always, joined, only}
-use Rattle.spirv_emit.specs.Code.{type_of_symbol}
+use Rattle.spirv_emit.specs.Code.{In, type_of_symbol}
 use Rattle.spirv_emit.specs.Lanes.{Site, IsWhole, IsArray, IsView, HasMemorySort, meaning}
 use Rattle.shader_tree.specs.Values.{Words as Words'}
+use Rattle.shader_tree.specs.Holding.{HoldWords}
 use Rattle.spirv_emit.specs.Growing.{Completes}
-use Rattle.spirv_emit.specs.Rooms.{inside, placed, room_word, class_of}
-use Rattle.spirv_emit.specs.Values.{slot, a_word, AreValues, Meaning, Gives}
+use Rattle.spirv_emit.specs.Linked.{StandsIn}
+use Rattle.spirv_emit.specs.Rooms.{PointsTo, inside, placed, room_word, class_of}
+use Rattle.spirv_emit.specs.Values.{Slot, slot, a_word, AreValues, Meaning, Gives}
 use Rattle.spirv_emit.specs.Steps.{Adds}
-use Rattle.spirv_emit.proofs.Giving.{added_gives, named_gives, nothing_gives, then', only_gives, weaker}
+use Rattle.spirv_emit.proofs.Links.{chain_room}
+use Rattle.spirv_emit.proofs.Giving.{Leads, added_gives, added_here, named_gives, nothing_gives, then', leads_back, only_gives, only_leads, weaker, weaker_leads}
 use Rattle.spirv_emit.proofs.Room.{has_below}
 use Rattle.spirv_emit.proofs.Stores.{there_named}
 use Rattle.spirv_emit.proofs.Forms.{acts}
@@ -114,6 +118,7 @@ module _ (a d : Emission) (t r p i n : ℕ) (y : Symbol) (size : Site → ℕ) (
       added_gives a d (instr 65 (t ∷ r ∷ p ∷ i ∷ [])) r t (symbol.WordPointer storage.Function) (slot p (symbol.LocalPointer n) ∷ a_word i ∷ [])
       (pointing size (λ k. AtLocal p k)) refl has (refl, refl) h
       (λ z comp k is. (storage.Function, symbol.LocalPointer n, comp.has (AType (symbol.WordPointer storage.Function)) t has, is.0, (refl, is.1.0)))
+      (inl refl) (λ z places is. refl)
       (λ z comp s u vs ws at v mir e. by z s vs ws comp.whole at (array z comp) (mir.knows y p (AtLocal p 0) (comp.has y p type) m) v e) where
         by : (z : Site) (s : State) (vs ws : List Value) → IsWhole z → slice_get z.machine.code s.place ≡ Some (instr 65 (t ∷ r ∷ p ∷ i ∷ []))
             → IsArray z.machine.code storage.Function p (size z) → s.values p ≡ Some (AtLocal p 0)
@@ -133,10 +138,10 @@ module _ (a d : Emission) (t r p i n : ℕ) (y : Symbol) (size : Site → ℕ) (
 
   pub shared_chain_gives : (room : Room) → Has a.symbols.entries (AType (symbol.WordPointer storage.Workgroup)) t → meaning y p ≡ Some (AtRoom room 0)
       → ((z : Site) → Completes a z → IsArray z.machine.code storage.Workgroup p (size z))
-      → Gives a d (slot p (symbol.SharedPointer n) ∷ a_word i ∷ []) (slot r (symbol.WordPointer storage.Workgroup) ∷ [])
-      (pointing size (λ k. AtRoom room k))
+      → (g : Gives a d (slot p (symbol.SharedPointer n) ∷ a_word i ∷ []) (slot r (symbol.WordPointer storage.Workgroup) ∷ [])
+      (pointing size (λ k. AtRoom room k))) × (g.seg ≡ instr 65 (t ∷ r ∷ p ∷ i ∷ []) ∷ [])
   shared_chain_gives room has m array =
-      added_gives a d (instr 65 (t ∷ r ∷ p ∷ i ∷ [])) r t (symbol.WordPointer storage.Workgroup) (slot p (symbol.SharedPointer n) ∷ a_word i ∷ [])
+      added_here a d (instr 65 (t ∷ r ∷ p ∷ i ∷ [])) r t (symbol.WordPointer storage.Workgroup) (slot p (symbol.SharedPointer n) ∷ a_word i ∷ [])
       (pointing size (λ k. AtRoom room k)) refl has (refl, refl) h
       (λ z comp k is. (
         storage.Workgroup,
@@ -145,6 +150,7 @@ module _ (a d : Emission) (t r p i n : ℕ) (y : Symbol) (size : Site → ℕ) (
         is.0,
         (refl, is.1.0),
       ))
+      (inl refl) (λ z places is. refl)
       (λ z comp s u vs ws at v mir e. by z s vs ws comp.whole at (array z comp) (mir.knows y p (AtRoom room 0) (comp.has y p type) m) v e) where
         by : (z : Site) (s : State) (vs ws : List Value) → IsWhole z → slice_get z.machine.code s.place ≡ Some (instr 65 (t ∷ r ∷ p ∷ i ∷ []))
             → IsArray z.machine.code storage.Workgroup p (size z) → s.values p ≡ Some (AtRoom room 0)
@@ -166,10 +172,10 @@ module _ (a d : Emission) (t r p i n : ℕ) (y : Symbol) (size : Site → ℕ) (
 module _ (a d : Emission) (t r p o i : ℕ) (access : Access) (room : Room) (h : Adds a d (instr 65 (t ∷ r ∷ p ∷ o ∷ i ∷ [])) r) where
   pub view_chain_gives : Has a.symbols.entries (Memory room) p → Has a.symbols.entries (Constant 0) o
       → Has a.symbols.entries (AType (symbol.WordPointer storage.StorageBuffer)) t → ((z : Site) → Completes a z → IsView z.machine.code p)
-      → Gives a d (slot p (symbol.ViewPointer access) ∷ a_word o ∷ a_word i ∷ []) (slot r (symbol.WordPointer storage.StorageBuffer) ∷ [])
-      (pointing_in (λ z. z.machine.setting.extent room) (λ k. AtRoom room k))
+      → (g : Gives a d (slot p (symbol.ViewPointer access) ∷ a_word o ∷ a_word i ∷ []) (slot r (symbol.WordPointer storage.StorageBuffer) ∷ [])
+      (pointing_in (λ z. z.machine.setting.extent room) (λ k. AtRoom room k))) × (g.seg ≡ instr 65 (t ∷ r ∷ p ∷ o ∷ i ∷ []) ∷ [])
   view_chain_gives type zero' has view =
-      added_gives a d (instr 65 (t ∷ r ∷ p ∷ o ∷ i ∷ [])) r t (symbol.WordPointer storage.StorageBuffer)
+      added_here a d (instr 65 (t ∷ r ∷ p ∷ o ∷ i ∷ [])) r t (symbol.WordPointer storage.StorageBuffer)
       (slot p (symbol.ViewPointer access) ∷ a_word o ∷ a_word i ∷ [])
       (pointing_in (λ z. z.machine.setting.extent room) (λ k. AtRoom room k)) refl has (refl, refl) h
       (λ z comp k is. (
@@ -179,6 +185,7 @@ module _ (a d : Emission) (t r p o i : ℕ) (access : Access) (room : Room) (h :
         is.0,
         (refl, comp.has (Constant 0) o zero', (is.1.0, (is.1.1.0, tt))),
       ))
+      (inl refl) (λ z places is. refl)
       (λ z comp s u vs ws at v mir e.
       by z s vs ws comp.whole at (view z comp) (mir.knows (Memory room) p (AtRoom room 0) (comp.has (Memory room) p type) refl)
       (mir.knows (Constant 0) o (Word 0) (comp.has (Constant 0) o zero') refl) v e) where
@@ -251,13 +258,25 @@ module _ (a d : Emission) (r : Room) (p i q t : ℕ) (begun : IsBegun a) (has : 
       then' a a a (a_word i ∷ []) (a_word i ∷ []) [] (slot p type ∷ []) given (always (AtRoom r 0)) []
       (nothing_gives a a (a_word i ∷ []) (named.grows) refl) here refl
 
+  abbrev Led : ℕ → Type 0
+  Led class =
+      (g : Gives a d (a_word i ∷ []) (slot q (symbol.WordPointer class) ∷ []) (room_word r))
+      × Leads a d (a_word i ∷ []) (slot q (symbol.WordPointer class) ∷ []) (room_word r) g r q
+
+  -- a chain of one instruction from the variable leads to the room
+  from_chain : (xs : List Slot) (class : ℕ) (f : Meaning) (is : List ℕ) (g : Gives a d xs (slot q (symbol.WordPointer class) ∷ []) f)
+      → g.seg ≡ instr 65 (t ∷ q ∷ p ∷ is) ∷ [] → In (ids_of (instr 65 (t ∷ q ∷ p ∷ is))).results q
+      → Leads a d xs (slot q (symbol.WordPointer class) ∷ []) f g r q
+  from_chain xs class f is g e own z places comp linked here =
+      chain_room z places r t q p is linked (comp.has (Memory r) p (g.grows.has (Memory r) p has)) (subst (StandsIn z) e here) own
+
   by_place : (z : Site) (t : Words') (vs ws : List Value) → Placed (z.machine.setting.extent r) r vs ws → (f : Meaning)
       → ((k : ℕ) → k < z.machine.setting.extent r → f z t (Word k ∷ []) ≡ Ok (AtRoom r k ∷ [])) → f z t vs ≡ Ok ws
   by_place z t vs ws k f h =
       subst (λ us. f z t us ≡ Ok ws) (sym k.is) (subst (λ us. f z t (Word k.index ∷ []) ≡ Ok us) (sym k.made) (h k.index k.within))
 
   pub shared_word : (x : ℕ) → r ≡ room.Shared x → Has a.symbols.entries (AType (symbol.WordPointer storage.Workgroup)) t
-      → Adds a d (instr 65 (t ∷ q ∷ p ∷ i ∷ [])) q → Gives a d (a_word i ∷ []) (slot q (symbol.WordPointer storage.Workgroup) ∷ []) (room_word r)
+      → Adds a d (instr 65 (t ∷ q ∷ p ∷ i ∷ [])) q → Led storage.Workgroup
   shared_word x e pointer h =
       let n = context.size_of a.frame.context (Memory (room.Shared x)) in
       let size : Site → ℕ = λ z. z.machine.setting.extent r in
@@ -272,18 +291,28 @@ module _ (a d : Emission) (r : Room) (p i q t : ℕ) (begun : IsBegun a) (has : 
       subst (IsArray z.machine.code storage.Workgroup p) (sym same) sort) in
       let f = joined given [] (always (AtRoom r 0)) in
       let two = then' a a d (a_word i ∷ []) (slot p (symbol.SharedPointer n) ∷ a_word i ∷ []) (slot p (symbol.SharedPointer n) ∷ a_word i ∷ [])
-      (slot q (symbol.WordPointer storage.Workgroup) ∷ []) f (pointing size (λ k. AtRoom r k)) (0 ∷ 1 ∷ []) one chain refl in
+      (slot q (symbol.WordPointer storage.Workgroup) ∷ []) f (pointing size (λ k. AtRoom r k)) (0 ∷ 1 ∷ []) one chain.0 refl in
       let g = joined f (0 ∷ 1 ∷ []) (pointing size (λ k. AtRoom r k)) in
-      let three = only_gives a d (a_word i ∷ []) _ (slot q (symbol.WordPointer storage.Workgroup) ∷ []) g (0 ∷ []) two refl in
-      weaker a d (a_word i ∷ []) (slot q (symbol.WordPointer storage.Workgroup) ∷ []) (only (0 ∷ []) g) (room_word r)
-      (λ z comp t hold vs ws e. by_place z t vs ws (placed_at (z.machine.setting.extent r) r vs ws e) (only (0 ∷ []) g) (λ k lt.
-      let b : nat_lt k (z.machine.setting.extent r) ≡ true = lt-ltb k (z.machine.setting.extent r) lt in rw b refl)) three
+      let ptr = slot q (symbol.WordPointer storage.Workgroup) in
+      let all = ptr ∷ slot p (symbol.SharedPointer n) ∷ a_word i ∷ [] in
+      let three = only_gives a d (a_word i ∷ []) all (ptr ∷ []) g (0 ∷ []) two refl in
+      let by : (z : Site) → Completes d z → (t : Words') → HoldWords t → (vs ws : List Value) → room_word r z t vs ≡ Ok ws
+      → only (0 ∷ []) g z t vs ≡ Ok ws =
+      λ z comp t hold vs ws e. by_place z t vs ws (placed_at (z.machine.setting.extent r) r vs ws e) (only (0 ∷ []) g) (λ k lt.
+      let b : nat_lt k (z.machine.setting.extent r) ≡ true = lt-ltb k (z.machine.setting.extent r) lt in rw b refl) in (
+        weaker a d (a_word i ∷ []) (ptr ∷ []) (only (0 ∷ []) g) (room_word r) by three,
+        weaker_leads a d (a_word i ∷ []) (ptr ∷ []) (only (0 ∷ []) g) (room_word r) by three r q
+            (only_leads a d (a_word i ∷ []) all (ptr ∷ []) g (0 ∷ []) two refl r q
+            (leads_back a a d (a_word i ∷ []) (slot p (symbol.SharedPointer n) ∷ a_word i ∷ []) (slot p (symbol.SharedPointer n) ∷ a_word i ∷ [])
+            (ptr ∷ []) f (pointing size (λ k. AtRoom r k)) (0 ∷ 1 ∷ []) one chain.0 refl r q
+            (from_chain (slot p (symbol.SharedPointer n) ∷ a_word i ∷ []) storage.Workgroup (pointing size (λ k. AtRoom r k)) (i ∷ []) chain.0
+            chain.1 (inl refl)))),
+      )
 
   pub view_word : (o : ℕ) (access : Access) → Has a.symbols.entries (Constant 0) o → type_of_symbol a.frame.context (Memory r) ≡ Some
       (symbol.ViewPointer access)
       → ((z : Site) → Completes a z → IsView z.machine.code p) → Has a.symbols.entries (AType (symbol.WordPointer storage.StorageBuffer)) t
-      → Adds a d (instr 65 (t ∷ q ∷ p ∷ o ∷ i ∷ [])) q → Gives a d (a_word i ∷ []) (slot q (symbol.WordPointer storage.StorageBuffer) ∷ [])
-      (room_word r)
+      → Adds a d (instr 65 (t ∷ q ∷ p ∷ o ∷ i ∷ [])) q → Led storage.StorageBuffer
   view_word o access zero' type view pointer h =
       let base = slot p (symbol.ViewPointer access) in let ptr = slot q (symbol.WordPointer storage.StorageBuffer) in
       let size : Site → ℕ = λ z. z.machine.setting.extent r in
@@ -295,32 +324,50 @@ module _ (a d : Emission) (r : Room) (p i q t : ℕ) (begun : IsBegun a) (has : 
       let g = joined f [] (always (Word 0)) in
       let chain = view_chain_gives a d t q p o i access r h has zero' pointer view in
       let three = then' a a d (a_word i ∷ []) (a_word o ∷ base ∷ a_word i ∷ []) (base ∷ a_word o ∷ a_word i ∷ []) (ptr ∷ []) g
-      (pointing_in size (λ k. AtRoom r k)) (1 ∷ 0 ∷ 2 ∷ []) two chain refl in
+      (pointing_in size (λ k. AtRoom r k)) (1 ∷ 0 ∷ 2 ∷ []) two chain.0 refl in
       let l = joined g (1 ∷ 0 ∷ 2 ∷ []) (pointing_in size (λ k. AtRoom r k)) in
-      let four = only_gives a d (a_word i ∷ []) _ (ptr ∷ []) l (0 ∷ []) three refl in
-      weaker a d (a_word i ∷ []) (ptr ∷ []) (only (0 ∷ []) l) (room_word r)
-      (λ z comp t hold vs ws e. by_place z t vs ws (placed_at (z.machine.setting.extent r) r vs ws e) (only (0 ∷ []) l) (λ k lt.
-      let b : nat_lt k (z.machine.setting.extent r) ≡ true = lt-ltb k (z.machine.setting.extent r) lt in rw b refl)) four
+      let all = ptr ∷ a_word o ∷ base ∷ a_word i ∷ [] in
+      let four = only_gives a d (a_word i ∷ []) all (ptr ∷ []) l (0 ∷ []) three refl in
+      let by : (z : Site) → Completes d z → (t : Words') → HoldWords t → (vs ws : List Value) → room_word r z t vs ≡ Ok ws
+      → only (0 ∷ []) l z t vs ≡ Ok ws =
+      λ z comp t hold vs ws e. by_place z t vs ws (placed_at (z.machine.setting.extent r) r vs ws e) (only (0 ∷ []) l) (λ k lt.
+      let b : nat_lt k (z.machine.setting.extent r) ≡ true = lt-ltb k (z.machine.setting.extent r) lt in rw b refl) in (
+        weaker a d (a_word i ∷ []) (ptr ∷ []) (only (0 ∷ []) l) (room_word r) by four,
+        weaker_leads a d (a_word i ∷ []) (ptr ∷ []) (only (0 ∷ []) l) (room_word r) by four r q
+            (only_leads a d (a_word i ∷ []) all (ptr ∷ []) l (0 ∷ []) three refl r q
+            (leads_back a a d (a_word i ∷ []) (a_word o ∷ base ∷ a_word i ∷ []) (base ∷ a_word o ∷ a_word i ∷ []) (ptr ∷ []) g
+            (pointing_in size (λ k. AtRoom r k)) (1 ∷ 0 ∷ 2 ∷ []) two chain.0 refl r q
+            (from_chain (base ∷ a_word o ∷ a_word i ∷ []) storage.StorageBuffer (pointing_in size (λ k. AtRoom r k)) (o ∷ i ∷ []) chain.0 chain.1
+            (inl refl)))),
+      )
+
+pointer_to : (a d : Emission) (r : Room) (i q : ℕ)
+    (h : (g : Gives a d (a_word i ∷ []) (slot q (symbol.WordPointer (class_of r)) ∷ []) (room_word r))
+    × Leads a d (a_word i ∷ []) (slot q (symbol.WordPointer (class_of r)) ∷ []) (room_word r) g r q) → PointsTo a d r i q
+pointer_to a d r i q h = record { gives = h.0; leads = h.1 }
 
 -- of each class
 pub shared_gives : (a d : Emission) (r : Room) (p i q t : ℕ) → class_of r ≡ storage.Workgroup → IsBegun a → Has a.symbols.entries (Memory r) p
-    → Has a.symbols.entries (AType (symbol.WordPointer storage.Workgroup)) t → Adds a d (instr 65 (t ∷ q ∷ p ∷ i ∷ [])) q
-    → Gives a d (a_word i ∷ []) (slot q (symbol.WordPointer (class_of r)) ∷ []) (room_word r)
-shared_gives a d (room.Shared x) p i q t c begun has pointer h = shared_word a d (room.Shared x) p i q t begun has x refl pointer h
+    → Has a.symbols.entries (AType (symbol.WordPointer storage.Workgroup)) t → Adds a d (instr 65 (t ∷ q ∷ p ∷ i ∷ [])) q → PointsTo a d r i q
+shared_gives a d (room.Shared x) p i q t c begun has pointer h =
+    pointer_to a d (room.Shared x) i q (shared_word a d (room.Shared x) p i q t begun has x refl pointer h)
 shared_gives a d (room.Resource x) p i q t c begun has pointer h = absurd (cc c)
 shared_gives a d (room.Uav x) p i q t c begun has pointer h = absurd (cc c)
 shared_gives a d (room.Counter x) p i q t c begun has pointer h = absurd (cc c)
 
 pub view_gives : (a d : Emission) (r : Room) (p i q t o : ℕ) → class_of r ≡ storage.StorageBuffer → IsBegun a → Has a.symbols.entries (Memory r) p
     → Has a.symbols.entries (Constant 0) o → Has a.symbols.entries (AType (symbol.WordPointer storage.StorageBuffer)) t
-    → Adds a d (instr 65 (t ∷ q ∷ p ∷ o ∷ i ∷ [])) q → Gives a d (a_word i ∷ []) (slot q (symbol.WordPointer (class_of r)) ∷ []) (room_word r)
+    → Adds a d (instr 65 (t ∷ q ∷ p ∷ o ∷ i ∷ [])) q → PointsTo a d r i q
 view_gives a d (room.Shared x) p i q t o c begun has zero' pointer h = absurd (cc c)
 view_gives a d (room.Resource x) p i q t o c begun has zero' pointer h =
-    view_word a d (room.Resource x) p i q t begun has o ReadOnly zero' refl (λ z comp. comp.whole.sorts (Memory (room.Resource x)) p
-    (comp.has _ p has)) pointer h
+    pointer_to a d (room.Resource x) i q
+    (view_word a d (room.Resource x) p i q t begun has o ReadOnly zero' refl (λ z comp. comp.whole.sorts (Memory (room.Resource x)) p
+    (comp.has _ p has)) pointer h)
 view_gives a d (room.Uav x) p i q t o c begun has zero' pointer h =
-    view_word a d (room.Uav x) p i q t begun has o (uav_access (declared_of a.frame.context (Memory (room.Uav x))).coherent) zero' refl
-    (λ z comp. comp.whole.sorts (Memory (room.Uav x)) p (comp.has _ p has)) pointer h
+    pointer_to a d (room.Uav x) i q
+    (view_word a d (room.Uav x) p i q t begun has o (uav_access (declared_of a.frame.context (Memory (room.Uav x))).coherent) zero' refl
+    (λ z comp. comp.whole.sorts (Memory (room.Uav x)) p (comp.has _ p has)) pointer h)
 view_gives a d (room.Counter x) p i q t o c begun has zero' pointer h =
-    view_word a d (room.Counter x) p i q t begun has o Plain zero' refl (λ z comp. comp.whole.sorts (Memory (room.Counter x)) p (comp.has _ p has))
-    pointer h
+    pointer_to a d (room.Counter x) i q
+    (view_word a d (room.Counter x) p i q t begun has o Plain zero' refl
+    (λ z comp. comp.whole.sorts (Memory (room.Counter x)) p (comp.has _ p has)) pointer h)

@@ -21,6 +21,7 @@ use Rattle.spirv_emit.specs.Growing.{Same, Grows, Completes}
 use Rattle.spirv_emit.specs.Values.{slot, Meaning, Gives, nothing, Saves}
 use Rattle.spirv_emit.specs.Joins.{given, always, joined}
 use Rattle.spirv_emit.specs.Steps.{Named, Acts, Adds, IsPopped, StoresTo}
+use Rattle.spirv_emit.proofs.Links.{store_quiet}
 use Rattle.spirv_emit.proofs.Growth.{settled_grows}
 use Rattle.spirv_emit.proofs.Giving.{then', only_gives, named_gives, nothing_gives}
 use Rattle.spirv_emit.proofs.Memory.{variable, place, stored, stored_cells, flushes_well}
@@ -44,6 +45,7 @@ module _ (p b : Emission) (t : Table) (limits : limits_in t ≡ limits_in p.kept
     distinct = g.distinct;
     has = g.has;
     later = g.later;
+    globals = g.globals;
     fresh = g.fresh;
   }
 
@@ -87,6 +89,7 @@ module _ (a b c d : Emission) (w : Kept) (id q v : ℕ) (f : Meaning) (x : Gives
         (((storage.Function, is.0, refl), keeps w id (subst (λ t. id_in t w ≡ Some id) (sym kept) last.here))),
         (λ y i e. keeps y i (subst (λ t. id_in t y ≡ Some i) (same ∙ sym kept) (sym (popped.pops.ids y) ∙ e))),
       ))
+      (λ z places is. store_quiet z places q id storage.Function is.0 refl)
       (λ z comp s t u mir e.
       let ins = mir.inside w waits in (
         AtLocal v (place w) ∷ [],

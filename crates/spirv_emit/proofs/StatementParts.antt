@@ -16,11 +16,13 @@ use Rattle.shader_tree.specs.Terms.{Term, term_by, term_for, term_within, term_a
 use Rattle.shader_tree.specs.Terms as term
 use Rattle.shader_tree.specs.Walks.{holds_no, spaces_in, rooms_in, threads_in}
 use Rattle.spirv_symbols.specs.declared.symbol.Symbol.{Symbol}
-use Rattle.spirv_symbols.specs.declared.symbol.Symbol.TheVariants.{Memory, Input}
+use Rattle.binding_map.specs.declared.register.Place.{Place}
+use Rattle.binding_map.specs.declared.register.Place.TheVariants.{Bound, Push as InPush}
+use Rattle.spirv_symbols.specs.declared.symbol.Symbol.TheVariants.{Memory, Input, Uniform, Push}
 use Rattle.spirv_symbols.specs.declared.symbol.TypeSymbol.TheVariants as symbol
 use Rattle.spirv_words.specs.Text.{Instr}
 use Rattle.spirv_emit.specs.declared.buffer.ConstantBuffer.{ConstantBuffer}
-use Rattle.spirv_emit.specs.Begun.{IsBegun, IsThere, IsBufferThere, IsSpaceThere, Names, is_searched, built_in_of, place_symbol}
+use Rattle.spirv_emit.specs.Begun.{IsBegun, IsThere, IsBufferThere, IsPlaceThere, IsSpaceThere, Names, is_searched, built_in_of}
 use Rattle.spirv_emit.specs.Emission.{Emission, Frame, words_left, ids_left, buffer_of}
 use Rattle.spirv_emit.specs.Expressions.{May, Did}
 use Rattle.spirv_emit.specs.Growing.{Grows}
@@ -107,9 +109,13 @@ module _ (a b : Emission) (seg : List Instr) (g : Grows a b seg) where
   pub there_later : (s : Symbol) → IsThere a.symbols.entries s → IsThere b.symbols.entries s
   there_later s h = (h.0, g.has s h.0 h.1)
 
+  place_later : (slot : ℕ) (place : Place) → IsPlaceThere a.symbols.entries slot place → IsPlaceThere b.symbols.entries slot place
+  place_later slot (Bound set binding) h = there_later (Uniform slot) h
+  place_later slot (InPush first count) h = λ lt. there_later Push (h lt)
+
   buffer_later : (o : Option ConstantBuffer) → IsBufferThere a.symbols.entries o → IsBufferThere b.symbols.entries o
   buffer_later None h = h
-  buffer_later (Some c) h = there_later (place_symbol c.slot c.place) h
+  buffer_later (Some c) h = place_later c.slot c.place h
 
   space_later : (s : Space) → IsSpaceThere a s → IsSpaceThere b s
   space_later space.Temps h = λ e. there_later _ (h (ap (λ (f : Frame). f.separate) (sym g.same.frame) ∙ e))

@@ -8,7 +8,9 @@ use Rattle.kept_values.specs.declared.word.Word.TheVariants as kept
 use Rattle.kept_values.specs.Tables.{Table, id_in, dirty_in, Puts}
 use Rattle.shader_tree.specs.Values.{Words}
 use Rattle.shader_tree.specs.Lane.{with_scratch}
+use Rattle.shader_tree.specs.Shape.{Item}
 use Rattle.spirv_words.specs.Definitions.{are_distinct}
+use Rattle.spirv_words.specs.Globals.{Places}
 use Rattle.spirv_words.specs.Text.{Instr, instr, is_instr, words_of_instr}
 use Rattle.spirv_words.specs.Values.{Value, Word, AtLocal}
 use Rattle.spirv_words.specs.Lane.{State, step, with_value, with_memory, goes_to}
@@ -20,10 +22,14 @@ use Rattle.spirv_symbols.specs.Tables.{Has}
 use Rattle.spirv_emit.specs.Emission.{Emission, next_of}
 use Rattle.spirv_emit.specs.Code.{In, Typed, typed, typed_result, values, IsPlain, ArePlain, behind, IsOf, IsTyped, Covers, CoversKept}
 use Rattle.spirv_emit.specs.Lanes.{Site, IsWhole, Mirrors, Stands}
-use Rattle.spirv_emit.specs.Growing.{Grows, Completes}
-use Rattle.spirv_emit.specs.Values.{Slot, slot, AreValues, AreKnown, Runs, Knowing, Meaning, Gives, nothing}
+use Rattle.spirv_emit.specs.Growing.{Grows, Completes, globals_in}
+use Rattle.spirv_emit.specs.Linked.{IsLinked, StandsIn}
+use Rattle.spirv_emit.specs.ModuleShape.{Seen, marks_of, shape_of}
+use Rattle.spirv_emit.specs.Values.{Slot, slot, AreValues, AreKnown, HaveClasses, Runs, Knowing, Quiet, Meaning, Gives, nothing}
 use Rattle.spirv_emit.specs.Steps.{Named, Adds, Acts, Settled, IsPut}
 use Rattle.spirv_emit.specs.Blocks.{Change, Alters, Meets}
+use Rattle.spirv_emit.proofs.Links as links
+use Rattle.spirv_emit.proofs.Links.{shape_one}
 use Rattle.spirv_emit.proofs.Lists.{code_back, each_append, behind_append, typed_append}
 use Rattle.spirv_emit.proofs.Growth.{grows_on, completes_back, apart, settled_grows, add_grows, all_one, at_same, runs_on, stands_front, one_defines}
 use Rattle.spirv_emit.proofs.Giving.{mirrors_value, plain_behind, ok_same}
@@ -54,6 +60,7 @@ act_grows a b i e h =
       distinct = subst (λ l. IsTrue (are_distinct l)) (sym (none_defined i e)) refl;
       has = λ n id k. subst (λ t. Has t.entries n id) (sym h.symbols) k;
       later = λ n id k. inl (subst (λ t. Has t.entries n id) h.symbols k);
+      globals = ap (λ t. globals_in t.entries) h.symbols;
       fresh = λ id d. absurd (subst (λ l. In l id) (none_defined i e) d);
     }
 
@@ -92,6 +99,10 @@ module _ (a b d : Emission) (rs : List Slot) (f : Meaning) (i : Instr) (x : Give
   pub all_plain : IsPlain i → ArePlain (x.seg ++ i ∷ [])
   all_plain p = each_append IsPlain x.seg (i ∷ []) x.plain (p, tt)
 
+  pub in_front_of : (z : Site) (places : Places) → Completes d z → IsLinked z places → StandsIn z (x.seg ++ i ∷ []) → Quiet z places x.seg rs
+  in_front_of z places comp linked here =
+      x.quiet z places (completes_back b d (i ∷ []) z g comp) linked (links.stands_front z x.seg (i ∷ []) here) tt
+
   pub knowing : IsPlain i → (z : Site) → Completes d z → (gl k : List Typed) → Covers z.names z.frame.context k → CoversKept z.names a.kept k
       → ((k : List Typed) → CoversKept z.names b.kept k → AreKnown z.names k rs → IsTyped z.names k i × CoversKept z.names d.kept
       (typed_result i ++ k))
@@ -111,9 +122,16 @@ module _ (a b d : Emission) (rs : List Slot) (f : Meaning) (i : Instr) (x : Give
 module _ (a b c d : Emission) (rs : List Slot) (f : Meaning) (i : Instr) (x : Gives a b [] rs f) (act : Acts b c i) (set : Settled c d)
     (none : typed_result i ≡ []) (plain : IsPlain i)
     (takes : (z : Site) → Completes d z → (k : List Typed) → CoversKept z.names b.kept k → AreKnown z.names k rs → IsTyped z.names k i × CoversKept
-    z.names d.kept k) where
+    z.names d.kept k)
+    (silent : (z : Site) (places : Places) → HaveClasses z.machine.code rs → marks_of z.machine.code places i ≡ []) where
   acted : Grows b d (i ∷ [])
   acted = grows_on b c d (i ∷ []) [] (act_grows b c i none act) (settled_grows c d set)
+
+  still : (z : Site) (places : Places) → Completes d z → IsLinked z places → StandsIn z (x.seg ++ i ∷ [])
+      → shape_of z.machine.code places (x.seg ++ i ∷ []) ≡ []
+  still z places comp linked here =
+      let q = in_front_of a b d rs f i x acted z places comp linked here in
+      shape_one z.machine.code places x.seg i [] q.none (silent z places q.classes)
 
   take : (z : Site) → Completes d z → (k : List Typed) → CoversKept z.names b.kept k → AreKnown z.names k rs
       → IsTyped z.names k i × CoversKept z.names d.kept (typed_result i ++ k)
@@ -150,6 +168,7 @@ module _ (a b c d : Emission) (rs : List Slot) (f : Meaning) (i : Instr) (x : Gi
     plain = all_plain a b d rs f i x acted plain;
     below = λ l. tt;
     known = λ z comp gl k cover keeps is. knowing a b d rs f i x acted plain z comp gl k cover keeps (take z comp);
+    quiet = λ z places comp linked here is. record { none = still z places comp linked here; classes = tt };
     law = λ z comp l s t vs ws st v e.
         let q = eff z comp s t t st.mirrors refl in
         let o = done z comp s t t q.0 st q.1 q.2 in
@@ -162,6 +181,7 @@ module _ (a b c d : Emission) (rs : List Slot) (f : Meaning) (i : Instr) (x : Gi
     grows = grown a b d rs f i x acted;
     plain = all_plain a b d rs f i x acted plain;
     known = λ z comp gl k cover keeps. knowing a b d rs f i x acted plain z comp gl k cover keeps (take z comp);
+    quiet = still;
     law = λ z comp s t u st e.
         let q = eff z comp s t u st.mirrors e in
         let o = done z comp s t u q.0 st q.1 q.2 in
@@ -171,7 +191,9 @@ module _ (a b c d : Emission) (rs : List Slot) (f : Meaning) (i : Instr) (x : Gi
 -- AN EVENT without an answer.
 module _ (a b c : Emission) (rs : List Slot) (f : Meaning) (i : Instr) (x : Gives a b [] rs f) (act : Acts b c i) (none : typed_result i ≡ [])
     (plain : IsPlain i)
-    (takes : (z : Site) → Completes c z → (k : List Typed) → AreKnown z.names k rs → IsTyped z.names k i) where
+    (takes : (z : Site) → Completes c z → (k : List Typed) → AreKnown z.names k rs → IsTyped z.names k i) (item : Item)
+    (seen : (z : Site) (places : Places) → Completes b z → IsLinked z places → StandsIn z x.seg → HaveClasses z.machine.code rs
+    → marks_of z.machine.code places i ≡ Seen item ∷ []) where
   met : Grows b c (i ∷ [])
   met = act_grows b c i none act
 
@@ -180,7 +202,7 @@ module _ (a b c : Emission) (rs : List Slot) (f : Meaning) (i : Instr) (x : Give
       → (u ≡ (λ answer. t)) × ((vs : List Value) × (f z t [] ≡ Ok vs) × ((s : State) → slice_get z.machine.code s.place ≡ Some i
       → AreValues s.values rs vs
       → step z.machine s ≡ Asks e (λ answer. goes_to s (s.place + 1)))))
-      → Meets a c E
+      → Meets a c item E
   event_meets E eff = record {
     seg = x.seg ++ i ∷ [];
     grows = grown a b c rs f i x met;
@@ -191,6 +213,10 @@ module _ (a b c : Emission) (rs : List Slot) (f : Meaning) (i : Instr) (x : Give
           subst (λ l. CoversKept z.names c.kept (l ++ k)) (sym none)
               (subst (λ t. CoversKept z.names t k) (sym act.kept) keeps),
         ));
+    shows = λ z places comp linked here.
+        let q = in_front_of a b c rs f i x met z places comp linked here in
+        shape_one z.machine.code places x.seg i (Seen item ∷ []) q.none
+        (seen z places (completes_back b c (i ∷ []) z met comp) linked (links.stands_front z x.seg (i ∷ []) here) q.classes);
     law = λ z comp s t e u st h.
         let q = eff z comp t e u h in
         let p = before a b c rs f i x met z comp s t q.1.0 st q.1.1 in (
@@ -238,6 +264,7 @@ module _ (a b c : Emission) (w : Kept) (r : ℕ) (f : Meaning) (x : Gives a b []
                   (λ y i. i) p.results.0;
               results = tt;
             };
+        quiet = λ z places comp linked here. (x.quiet z places (completes_back b c [] z g comp) linked here tt).none;
         law = λ z comp s t u st e.
             let q = eff z comp t u e in
             let o = x.law z (completes_back b c [] z g comp) tt s t [] (Word q.0 ∷ []) st tt q.1 in (
@@ -255,7 +282,9 @@ module _ (a b c : Emission) (w : Kept) (r : ℕ) (f : Meaning) (x : Gives a b []
 module _ (a b c d : Emission) (rs : List Slot) (f : Meaning) (i : Instr) (r type n : ℕ) (x : Gives a b [] rs f) (add : Adds b c i r)
     (put : IsPut c d (kept.Scratch n) r)
     (one : typed_result i ≡ typed r type ∷ []) (plain : IsPlain i) (has : Has b.symbols.entries (AType symbol.Word) type)
-    (takes : (z : Site) → Completes b z → (k : List Typed) → AreKnown z.names k rs → IsTyped z.names k i) where
+    (takes : (z : Site) → Completes b z → (k : List Typed) → AreKnown z.names k rs → IsTyped z.names k i) (item : Item)
+    (seen : (z : Site) (places : Places) → Completes b z → IsLinked z places → StandsIn z x.seg → HaveClasses z.machine.code rs
+    → marks_of z.machine.code places i ≡ Seen item ∷ []) where
   answered : Grows b d (i ∷ [])
   answered = grows_on b c d (i ∷ []) [] (add_grows b c i r type one add) (settled_grows c d put.settled)
 
@@ -263,7 +292,7 @@ module _ (a b c d : Emission) (rs : List Slot) (f : Meaning) (i : Instr) (r type
       → ((z : Site) → Completes b z → (t : Words) (e : Event) (u : ℕ → Words) → E z t e u
       → (u ≡ (λ answer. with_scratch t n answer)) × ((vs : List Value) × (f z t [] ≡ Ok vs) × ((s : State) → slice_get z.machine.code s.place ≡ Some i
       → AreValues s.values rs vs → step z.machine s ≡ Asks e (λ answer. with_value s r (Word answer)))))
-      → Meets a d E
+      → Meets a d item E
   answer_meets E eff = record {
     seg = x.seg ++ i ∷ [];
     grows = grown a b d rs f i x answered;
@@ -277,6 +306,11 @@ module _ (a b c d : Emission) (rs : List Slot) (f : Meaning) (i : Instr) (r type
               (subst (λ t. CoversKept z.names t k) (sym add.kept) keeps) (λ y i. inr i)
               (type, back.has (AType symbol.Word) type has, inl refl)),
         ));
+    shows = λ z places comp linked here.
+        let back = completes_back b d (i ∷ []) z answered comp in
+        let q = in_front_of a b d rs f i x answered z places comp linked here in
+        shape_one z.machine.code places x.seg i (Seen item ∷ []) q.none
+        (seen z places back linked (links.stands_front z x.seg (i ∷ []) here) q.classes);
     law = λ z comp s t e u st h.
         let back = completes_back b d (i ∷ []) z answered comp in
         let q = eff z back t e u h in

@@ -77,20 +77,20 @@ pub record IsUnsaid (f : Frame) : Type 0 where
   pub separate : f.separate ≡ false
 
 -- WHAT A TREE MAY NAME. The variable of a space's words, where all of them have one; that of a constant buffer by its
--- place; a built-in's.
+-- place, but for one of no push constant words; a built-in's.
 abbrev pub built_in_of : Kind → ℕ
 built_in_of kind.GroupId = WorkgroupId
 built_in_of kind.IdInGroup = LocalInvocationId
 built_in_of kind.ThreadId = GlobalInvocationId
 built_in_of other = LocalInvocationIndex
 
-abbrev pub place_symbol : ℕ → Place → Symbol
-place_symbol slot (Bound set binding) = Uniform slot
-place_symbol slot (InPush first count) = Push
+abbrev pub IsPlaceThere : List Entry → ℕ → Place → Type 0
+IsPlaceThere entries slot (Bound set binding) = IsThere entries (Uniform slot)
+IsPlaceThere entries slot (InPush first count) = 0 < count → IsThere entries Push
 
 abbrev pub IsBufferThere : List Entry → Option ConstantBuffer → Type 0
 IsBufferThere entries None = ⊥
-IsBufferThere entries (Some b) = IsThere entries (place_symbol b.slot b.place)
+IsBufferThere entries (Some b) = IsPlaceThere entries b.slot b.place
 
 abbrev pub IsSpaceThere : Emission → Space → Type 0
 IsSpaceThere e space.Temps = e.frame.separate ≡ false → IsThere e.symbols.entries Registers

@@ -10,10 +10,12 @@ use Rattle.word_base.specs.declared.event.Scope.{Scope}
 use Rattle.word_base.specs.Lanes.{Goes, Asks}
 use Rattle.kept_values.specs.Tables.{Table, IsEmpty}
 use Rattle.shader_tree.specs.declared.node.Space.{Space}
+use Rattle.shader_tree.specs.Shape.{Item}
 use Rattle.shader_tree.specs.Terms.{Term}
 use Rattle.shader_tree.specs.Values.{Words, words, word, value, size_of}
 use Rattle.shader_tree.specs.Lane.{with_scratch, with_word, second_operand}
 use Rattle.spirv_words.specs.Operations.{number_of, OpBranch, OpBranchConditional, OpLabel, OpLoopMerge, OpReturn, OpSelectionMerge, OpSwitch}
+use Rattle.spirv_words.specs.Globals.{Places}
 use Rattle.spirv_words.specs.Text.{Instr, instruction}
 use Rattle.spirv_words.specs.Memory.{takes_stores}
 use Rattle.spirv_words.specs.Lane.{State, step}
@@ -21,6 +23,8 @@ use Rattle.spirv_emit.specs.Emission.{Emission, spaces_of}
 use Rattle.spirv_emit.specs.Code.{Typed, ArePlain, Covers, CoversKept}
 use Rattle.spirv_emit.specs.Lanes.{Site, Mirrors, Stands}
 use Rattle.spirv_emit.specs.Growing.{Grows, Completes}
+use Rattle.spirv_emit.specs.Linked.{IsLinked, StandsIn}
+use Rattle.spirv_emit.specs.ModuleShape.{Seen, shape_of}
 use Rattle.spirv_emit.specs.Values.{Knowing}
 
 -- The lane is behind the code and mirrors these words.
@@ -39,17 +43,21 @@ pub record Alters (old new : Emission) (E : Change) : Type 0 where
   pub plain : ArePlain seg
   pub known : (z : Site) → Completes new z → (globals known : List Typed) → Covers z.names z.frame.context known
       → CoversKept z.names old.kept known → Knowing z.names globals known seg new.kept []
+  pub quiet : (z : Site) (places : Places) → Completes new z → IsLinked z places → StandsIn z seg
+      → shape_of z.machine.code places seg ≡ []
   pub law : (z : Site) → Completes new z → (s : State) (t u : Words) → Stands z seg old.kept s t → E z t u
       → (to : State) × Goes (step z.machine) (length seg) s to × Behind z seg new.kept s to u
 
 -- STATEMENTS WITH AN EVENT. Code of one block was added in which the lane comes silently to the event, inside it, and
--- behind its answer the words are changed so.
-pub record Meets (old new : Emission) (E : Site → Words → Event → (ℕ → Words) → Type 0) : Type 0 where
+-- behind its answer the words are changed so. The event is that item of the module's shape.
+pub record Meets (old new : Emission) (item : Item) (E : Site → Words → Event → (ℕ → Words) → Type 0) : Type 0 where
   pub seg : List Instr
   pub grows : Grows old new seg
   pub plain : ArePlain seg
   pub known : (z : Site) → Completes new z → (globals known : List Typed) → Covers z.names z.frame.context known
       → CoversKept z.names old.kept known → Knowing z.names globals known seg new.kept []
+  pub shows : (z : Site) (places : Places) → Completes new z → IsLinked z places → StandsIn z seg
+      → shape_of z.machine.code places seg ≡ Seen item ∷ []
   pub law : (z : Site) → Completes new z → (s : State) (t : Words) (e : Event) (u : ℕ → Words)
       → Stands z seg old.kept s t → E z t e u
       → (n : ℕ) × (to : State) × (after : ℕ → State) × (n ≤ length seg) × Goes (step z.machine) n s to

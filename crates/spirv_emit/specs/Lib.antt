@@ -5,11 +5,15 @@ pub mod Emission
 pub mod Expressions
 pub mod Finished
 pub mod Growing
+pub mod Naming
 pub mod Joins
 pub mod Lanes
+pub mod Linked
+pub mod ModuleShape
 pub mod Operations
 pub mod Rooms
 pub mod Reads
+pub mod Sized
 pub mod Spending
 pub mod Steps
 pub mod Values

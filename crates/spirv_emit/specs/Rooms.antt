@@ -1,5 +1,5 @@
 -- Pointers to the words of rooms.
-use Rattle.std.specs.Prelude.{ℕ, ◌+◌, nat_lt, if◌then◌else◌, Bool, true, false, List, [], ◌∷◌, Ok, Err}
+use Rattle.std.specs.Prelude.{◌≡◌, ℕ, ◌+◌, nat_lt, if◌then◌else◌, Bool, true, false, List, [], ◌∷◌, Some, Ok, Err}
 use Rattle.word_base.specs.declared.event.Act.{Act}
 use Rattle.word_base.specs.declared.event.Act.TheVariants as act
 use Rattle.word_base.specs.declared.event.Classes.{Classes}
@@ -10,8 +10,15 @@ use Rattle.word_base.specs.declared.event.Room.TheVariants as room
 use Rattle.spirv_words.specs.StorageClass as storage
 use Rattle.spirv_words.specs.Enumerants.{DeviceScope, WorkgroupScope, AcquireRelease, UniformMemory, WorkgroupMemory}
 use Rattle.spirv_words.specs.Operations.{number_of, OpAtomicExchange, OpAtomicCompareExchange, OpAtomicIAdd, OpAtomicISub, OpAtomicSMin, OpAtomicUMin, OpAtomicSMax, OpAtomicUMax, OpAtomicAnd, OpAtomicOr, OpAtomicXor}
+use Rattle.spirv_words.specs.Globals.{Places}
 use Rattle.spirv_words.specs.Values.{Value, Word, AtRoom, Got}
-use Rattle.spirv_emit.specs.Values.{Meaning}
+use Rattle.spirv_symbols.specs.declared.symbol.TypeSymbol.TheVariants.{WordPointer}
+use Rattle.spirv_emit.specs.Emission.{Emission}
+use Rattle.spirv_emit.specs.Growing.{Completes}
+use Rattle.spirv_emit.specs.Lanes.{Site}
+use Rattle.spirv_emit.specs.Linked.{IsLinked, StandsIn}
+use Rattle.spirv_emit.specs.ModuleShape.{pointer_room}
+use Rattle.spirv_emit.specs.Values.{Meaning, Gives, slot, a_word}
 
 -- shared memory is of the class Workgroup, a view and a counter of StorageBuffer
 abbrev pub class_of : Room → ℕ
@@ -28,6 +35,13 @@ placed size r vs = Err 1
 
 abbrev pub room_word : Room → Meaning
 room_word r z t vs = placed (z.machine.setting.extent r) r vs
+
+-- Code of one block was added that gives a pointer to the word of a room at an index; in a finished module it leads to
+-- that room.
+pub record PointsTo (old new : Emission) (room : Room) (at result : ℕ) : Type 0 where
+  pub gives : Gives old new (a_word at ∷ []) (slot result (WordPointer (class_of room)) ∷ []) (room_word room)
+  pub leads : (z : Site) (places : Places) → Completes new z → IsLinked z places → StandsIn z gives.seg
+      → pointer_room z.machine.code places result ≡ Some room
 
 -- THE NUMBERS of atomics, which but for one have one value, of scopes, and of semantics by the classes of memory.
 abbrev pub number_of_act : Act → ℕ

@@ -46,6 +46,7 @@ pub record Takes (old new : Emission) (r : ℕ) : Type 0 where
   pub next : next_of new ≡ next_of old + 1
   pub result : r ≡ next_of old
   pub kept : new.kept ≡ old.kept
+  pub symbols_below : (s : Symbol) (id : ℕ) → Has old.symbols.entries s id → id < next_of old
 
 -- So many ids were taken that are no symbol's, in a row.
 pub record TakesRow (old new : Emission) (first count : ℕ) : Type 0 where
@@ -55,6 +56,7 @@ pub record TakesRow (old new : Emission) (first count : ℕ) : Type 0 where
   pub next : next_of new ≡ first + count
   pub result : first ≡ next_of old
   pub kept : new.kept ≡ old.kept
+  pub symbols_below : (s : Symbol) (id : ℕ) → Has old.symbols.entries s id → id < next_of old
 
 -- These words were added.
 pub record Lengthens (old new : Emission) (more : List ℕ) : Type 0 where

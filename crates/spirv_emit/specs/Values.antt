@@ -7,6 +7,8 @@ use Rattle.shader_tree.specs.Terms as term
 use Rattle.shader_tree.specs.Values.{Words}
 use Rattle.shader_tree.specs.Values as tree
 use Rattle.shader_tree.specs.Holding.{OfWords}
+use Rattle.spirv_words.specs.Globals.{Places}
+use Rattle.spirv_words.specs.Sorts.{sort_of_value}
 use Rattle.spirv_words.specs.Text.{Instr}
 use Rattle.spirv_words.specs.Values.{Value, Word, Truth, Got}
 use Rattle.spirv_words.specs.Lane.{State, step}
@@ -17,6 +19,8 @@ use Rattle.spirv_emit.specs.Emission.{Emission, next_of, spaces_of}
 use Rattle.spirv_emit.specs.Code.{Typed, Defines, ArePlain, IsOf, AreTyped, Covers, CoversKept, behind}
 use Rattle.spirv_emit.specs.Lanes.{Site, Mirrors, Stands}
 use Rattle.spirv_emit.specs.Growing.{Grows, Completes}
+use Rattle.spirv_emit.specs.Linked.{IsPointer, IsLinked, StandsIn}
+use Rattle.spirv_emit.specs.ModuleShape.{shape_of}
 
 -- AN ID of code, with the symbol of its type. Lists of them have lists of values.
 pub record Slot : Type 0 where
@@ -48,6 +52,15 @@ abbrev pub AreKnown : List Entry → List Typed → List Slot → Type 0
 AreKnown names known [] = Unit {0}
 AreKnown names known (x ∷ xs) = IsOf names known x.type' x.id × AreKnown names known xs
 
+-- pointers to words are of their classes
+abbrev pub HasClass : List Instr → TypeSymbol → ℕ → Type 0
+HasClass code (symbol.WordPointer class) id = IsPointer (sort_of_value code id) class
+HasClass code type id = Unit {0}
+
+abbrev pub HaveClasses : List Instr → List Slot → Type 0
+HaveClasses code [] = Unit {0}
+HaveClasses code (x ∷ xs) = HasClass code x.type' x.id × HaveClasses code xs
+
 -- The lane runs through the code of one block from s to t, and changes only the ids that the code defines.
 pub record Runs (z : Site) (seg : List Instr) (s t : State) : Type 0 where
   pub goes : Goes (step z.machine) (length seg) s t
@@ -69,6 +82,11 @@ pub record Knowing (names : List Entry) (globals known : List Typed) (seg : List
   pub kept : CoversKept names table (behind globals known seg)
   pub results : AreKnown names (behind globals known seg) rs
 
+-- The code has no event in a finished module, and behind it the ids that are pointers are of their classes.
+pub record Quiet (z : Site) (places : Places) (seg : List Instr) (rs : List Slot) : Type 0 where
+  pub none : shape_of z.machine.code places seg ≡ []
+  pub classes : HaveClasses z.machine.code rs
+
 -- what ids have by what others have, in a finished module and with these words of the tree's lane
 abbrev pub Meaning : Type 0
 Meaning = Site → Words → List Value → Got (List Value)
@@ -81,6 +99,8 @@ pub record Gives (old new : Emission) (xs rs : List Slot) (f : Meaning) : Type 0
   pub below : AreBelow (next_of old) xs → AreBelow (next_of new) rs
   pub known : (z : Site) → Completes new z → (globals known : List Typed) → Covers z.names z.frame.context known
       → CoversKept z.names old.kept known → AreKnown z.names known xs → Knowing z.names globals known seg new.kept rs
+  pub quiet : (z : Site) (places : Places) → Completes new z → IsLinked z places → StandsIn z seg
+      → HaveClasses z.machine.code xs → Quiet z places seg rs
   pub law : (z : Site) → Completes new z → AreBelow (next_of old) xs → (s : State) (t : Words) (vs ws : List Value)
       → Stands z seg old.kept s t → AreValues s.values xs vs → f z t vs ≡ Ok ws → Reaches z seg new.kept rs ws s t
 

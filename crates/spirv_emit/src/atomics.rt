@@ -3,6 +3,7 @@ ghost use Rattle.std.specs.Prelude.{◌≡◌, ◌+◌, ◌<◌, ◌≤◌, [], 
 ghost use Rattle.kept_values.specs.Tables.{holds, limits_in};
 ghost use Rattle.kept_values.specs.declared.word.Word.TheVariants.{Scratch};
 ghost use Rattle.shader_tree.specs.Nodes.{has, a_word as the_word};
+ghost use Rattle.shader_tree.specs.Shape.{Changes as ChangesRoom};
 ghost use Rattle.shader_tree.specs.Terms.{term_at, Atomic as Acting};
 ghost use Rattle.spirv_emit.specs.Begun.{IsBegun};
 ghost use Rattle.spirv_emit.specs.Blocks.{Meets, Atomics};
@@ -93,7 +94,8 @@ impl Emitter {
         requires held { IsTrue (holds (limits_in self.old.kept) (Scratch scratch)) }
         requires ready { IsReady self.old (Acting scratch room (term_at tree.now.nodes index) kind
             (term_at tree.now.nodes a) (term_at tree.now.nodes b)) }
-        ensures meets { Meets self.old self.new (Atomics scratch room (term_at tree.now.nodes index) kind
+        ensures meets { Meets self.old self.new (ChangesRoom room kind)
+            (Atomics scratch room (term_at tree.now.nodes index) kind
             (term_at tree.now.nodes a) (term_at tree.now.nodes b)) }
         ensures spends { Spends self.old self.new (Acting scratch room (term_at tree.now.nodes index) kind
             (term_at tree.now.nodes a) (term_at tree.now.nodes b)) }
@@ -114,7 +116,8 @@ impl Emitter {
         requires held { IsTrue (holds (limits_in self.old.kept) (Scratch scratch)) }
         requires ready { IsReady self.old (Acting scratch room (term_at tree.now.nodes index) Act.CompareExchange
             (term_at tree.now.nodes a) (term_at tree.now.nodes b)) }
-        ensures meets { Meets self.old self.new (Atomics scratch room (term_at tree.now.nodes index) Act.CompareExchange
+        ensures meets { Meets self.old self.new (ChangesRoom room Act.CompareExchange)
+            (Atomics scratch room (term_at tree.now.nodes index) Act.CompareExchange
             (term_at tree.now.nodes a) (term_at tree.now.nodes b)) }
         ensures spends { Spends self.old self.new
             (Acting scratch room (term_at tree.now.nodes index) Act.CompareExchange
@@ -146,7 +149,8 @@ impl Emitter {
         requires held { IsTrue (holds (limits_in self.old.kept) (Scratch scratch)) }
         requires ready { IsReady self.old (Acting scratch room (term_at tree.now.nodes index) kind
             (term_at tree.now.nodes a) (term_at tree.now.nodes b)) }
-        ensures meets { Meets self.old self.new (Atomics scratch room (term_at tree.now.nodes index) kind
+        ensures meets { Meets self.old self.new (ChangesRoom room kind)
+            (Atomics scratch room (term_at tree.now.nodes index) kind
             (term_at tree.now.nodes a) (term_at tree.now.nodes b)) }
         ensures spends { Spends self.old self.new (Acting scratch room (term_at tree.now.nodes index) kind
             (term_at tree.now.nodes a) (term_at tree.now.nodes b)) }

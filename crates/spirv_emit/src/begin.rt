@@ -1,14 +1,17 @@
 //! Where a module begins: nothing but the symbols that count for no node.
-ghost use Rattle.std.specs.Prelude.{◌≡◌, ◌≤◌, ◌<◌, ◌∷◌, ◌++◌, [], length, false, IfOk};
+ghost use Rattle.std.specs.Prelude.{◌≡◌, ◌+◌, ◌≤◌, ◌<◌, ◌∷◌, ◌++◌, [], length, false, IfOk};
 ghost use Rattle.kept_values.specs.Tables.{limits_in, limits};
 ghost use Rattle.spirv_symbols.specs.Contexts.{Declares, empty_context};
 ghost use Rattle.spirv_emit.specs.Begun.{IsBegun, IsNew, IsUnsaid};
+ghost use Rattle.spirv_emit.specs.Emission.{words_left, ids_left};
+ghost use Rattle.spirv_emit.specs.Growing.{globals_in};
 
 use crate::buffer::ConstantBuffer;
 use crate::emitter::{Emitter, Frame};
+use crate::naming::put_all;
 use kept_values::{Kept, kept_laws};
 use node_pool::Pool;
-use spirv_symbols::{Context, Declared, Symbol, Symbols, TypeSymbol, growth_laws, id_laws};
+use spirv_symbols::{Context, Declared, Symbol, Symbols, TypeSymbol, id_laws};
 use spirv_words::storage_class;
 use std::alloc::Global;
 use word_base::NoMemory;
@@ -139,54 +142,40 @@ impl Emitter {
         requires ids { 64 ≤ self.old.symbols.limit }
         requires words { 256 ≤ self.old.code.capacity }
         ensures begun { IsBegun self.new }
-        ensures frame { self.new.frame ≡ self.old.frame }
-        ensures code { self.new.code ≡ self.old.code }
-        ensures kept { self.new.kept ≡ self.old.kept }
+        ensures rest { self.new ≡ record self.old { symbols = self.new.symbols } }
+        ensures globals { globals_in self.new.symbols.entries ≡ [] }
+        ensures words { self.old.code.capacity ≤ words_left self.new + 79 }
+        ensures ids { self.old.symbols.limit ≤ ids_left self.new + 22 }
         ensures limit { self.new.symbols.limit ≡ self.old.symbols.limit }
     {
         kept_laws();
         id_laws();
-        growth_laws();
-        let context = &self.frame.context;
-        self.symbols
-            .symbol(context, Symbol::AType(TypeSymbol::Word));
-        self.symbols
-            .symbol(context, Symbol::AType(TypeSymbol::Truth));
-        self.symbols
-            .symbol(context, Symbol::AType(TypeSymbol::Pair));
-        self.symbols.symbol(
-            context,
-            Symbol::AType(TypeSymbol::WordPointer(storage_class::FUNCTION)),
+        put_all(
+            &mut self.symbols,
+            &self.frame.context,
+            &[
+                Symbol::AType(TypeSymbol::Word),
+                Symbol::AType(TypeSymbol::Pair),
+                Symbol::AType(TypeSymbol::Truth),
+                Symbol::True,
+                Symbol::AType(TypeSymbol::Void),
+                Symbol::AType(TypeSymbol::Procedure),
+                Symbol::Main,
+                Symbol::FirstLabel,
+                Symbol::Import,
+                Symbol::AType(TypeSymbol::WordPointer(storage_class::FUNCTION)),
+                Symbol::AType(TypeSymbol::WordPointer(storage_class::INPUT)),
+                Symbol::AType(TypeSymbol::WordPointer(storage_class::UNIFORM)),
+                Symbol::AType(TypeSymbol::WordPointer(storage_class::PUSH_CONSTANT)),
+                Symbol::AType(TypeSymbol::WordPointer(storage_class::STORAGE_BUFFER)),
+                Symbol::AType(TypeSymbol::WordPointer(storage_class::WORKGROUP)),
+                Symbol::Constant(0),
+                Symbol::Constant(1),
+                Symbol::Constant(4),
+                Symbol::Constant(31),
+                Symbol::Constant(32),
+                Symbol::Constant(u32::MAX),
+            ],
         );
-        self.symbols.symbol(
-            context,
-            Symbol::AType(TypeSymbol::WordPointer(storage_class::INPUT)),
-        );
-        self.symbols.symbol(
-            context,
-            Symbol::AType(TypeSymbol::WordPointer(storage_class::UNIFORM)),
-        );
-        self.symbols.symbol(
-            context,
-            Symbol::AType(TypeSymbol::WordPointer(storage_class::PUSH_CONSTANT)),
-        );
-        self.symbols.symbol(
-            context,
-            Symbol::AType(TypeSymbol::WordPointer(storage_class::STORAGE_BUFFER)),
-        );
-        self.symbols.symbol(
-            context,
-            Symbol::AType(TypeSymbol::WordPointer(storage_class::WORKGROUP)),
-        );
-        self.symbols.symbol(context, Symbol::Constant(0));
-        self.symbols.symbol(context, Symbol::Constant(1));
-        self.symbols.symbol(context, Symbol::Constant(4));
-        self.symbols.symbol(context, Symbol::Constant(31));
-        self.symbols.symbol(context, Symbol::Constant(32));
-        self.symbols.symbol(context, Symbol::Constant(0xFFFF_FFFF));
-        self.symbols.symbol(context, Symbol::Import);
-        self.symbols.symbol(context, Symbol::True);
-        self.symbols.symbol(context, Symbol::Main);
-        self.symbols.symbol(context, Symbol::FirstLabel);
     }
 }

@@ -37,15 +37,15 @@ impl Emitter {
         requires begun { IsBegun self.old }
         requires ids { count ≤ ids_left self.old }
         ensures takes { TakesRow self.old self.new result count }
+        ensures short { result + count < 2 ^ 32 }
         ensures begun { IsBegun self.new }
         ensures words { words_left self.new ≡ words_left self.old }
         ensures ids { ids_left self.old ≤ ids_left self.new + count }
     {
-        let first = self.symbols.next();
         for _ in 0..count {
             self.fresh();
         }
-        first
+        self.symbols.next() - count
     }
 
     /// Begins a block with its label. No word is kept in it yet, and none may wait.

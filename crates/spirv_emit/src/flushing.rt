@@ -1,5 +1,5 @@
 //! Words that wait go to memory.
-ghost use Rattle.std.specs.Prelude.{◌≡◌, ◌+◌, ◌≤◌, ◌<◌, [], ◌∷◌, length};
+ghost use Rattle.std.specs.Prelude.{◌≡◌, ◌+◌, ◌≤◌, ◌<◌, [], ◌∷◌, length, false};
 ghost use Rattle.kept_values.specs.Tables.{dirty_in};
 ghost use Rattle.spirv_words.specs.StorageClass as storage;
 ghost use Rattle.spirv_symbols.specs.declared.symbol.Symbol.TheVariants.{AType, Constant as AConstant};
@@ -7,6 +7,7 @@ ghost use Rattle.spirv_symbols.specs.declared.symbol.TypeSymbol.TheVariants.{Wor
 ghost use Rattle.spirv_symbols.specs.Rows.{needs, words_of};
 ghost use Rattle.spirv_emit.specs.Begun.{IsBegun};
 ghost use Rattle.spirv_emit.specs.Emission.{words_left, ids_left};
+ghost use Rattle.spirv_emit.specs.Growing.{is_global};
 ghost use Rattle.spirv_emit.specs.Steps.{StoresTo};
 ghost use Rattle.spirv_emit.specs.Values.{Saves, Flushed};
 
@@ -19,6 +20,7 @@ impl Emitter {
     /// Writes an id's word to the variable of one word.
     pub(crate) fn store_to(&mut self, variable: Symbol, id: u32)
         requires begun { IsBegun self.old }
+        requires own { is_global variable ≡ false }
         requires needs { needs self.old.frame.context variable
             ≡ AType (WordPointer storage.Function) ∷ AConstant 0 ∷ [] }
         requires size { words_of self.old.frame.context variable ≡ 5 }

@@ -3,11 +3,9 @@ ghost use Rattle.std.specs.Prelude.{◌≡◌, ◌≢◌, ◌+◌, ◌≤◌, �
 ghost use Rattle.spirv_words.specs.StorageClass as storage;
 ghost use Rattle.word_base.specs.declared.event.Room.TheVariants.{Shared};
 ghost use Rattle.spirv_symbols.specs.declared.symbol.Symbol.TheVariants.{Memory};
-ghost use Rattle.spirv_symbols.specs.declared.symbol.TypeSymbol.TheVariants.{WordPointer};
 ghost use Rattle.spirv_emit.specs.Begun.{IsBegun, IsThere};
 ghost use Rattle.spirv_emit.specs.Emission.{words_left, ids_left};
-ghost use Rattle.spirv_emit.specs.Rooms.{class_of, room_word};
-ghost use Rattle.spirv_emit.specs.Values.{Gives, slot, a_word};
+ghost use Rattle.spirv_emit.specs.Rooms.{PointsTo, class_of};
 
 use crate::emitter::Emitter;
 use spirv_symbols::{Symbol, TypeSymbol};
@@ -22,8 +20,7 @@ impl Emitter {
         requires there { IsThere self.old.symbols.entries (Memory room) }
         requires words { 5 ≤ words_left self.old }
         requires ids { 1 ≤ ids_left self.old }
-        ensures gives { Gives self.old self.new (a_word at ∷ []) (slot result (WordPointer (class_of room)) ∷ [])
-            (room_word room) }
+        ensures points { PointsTo self.old self.new room at result }
         ensures begun { IsBegun self.new }
         ensures words { words_left self.old ≤ words_left self.new + 5 }
         ensures ids { ids_left self.old ≤ ids_left self.new + 1 }
@@ -40,8 +37,7 @@ impl Emitter {
         requires there { IsThere self.old.symbols.entries (Memory room) }
         requires words { 6 ≤ words_left self.old }
         requires ids { 1 ≤ ids_left self.old }
-        ensures gives { Gives self.old self.new (a_word at ∷ []) (slot result (WordPointer (class_of room)) ∷ [])
-            (room_word room) }
+        ensures points { PointsTo self.old self.new room at result }
         ensures begun { IsBegun self.new }
         ensures words { words_left self.old ≤ words_left self.new + 6 }
         ensures ids { ids_left self.old ≤ ids_left self.new + 1 }
@@ -60,8 +56,7 @@ impl Emitter {
         requires there { IsThere self.old.symbols.entries (Memory room) }
         requires words { 6 ≤ words_left self.old }
         requires ids { 1 ≤ ids_left self.old }
-        ensures gives { Gives self.old self.new (a_word at ∷ []) (slot result (WordPointer (class_of room)) ∷ [])
-            (room_word room) }
+        ensures points { PointsTo self.old self.new room at result }
         ensures begun { IsBegun self.new }
         ensures words { words_left self.old ≤ words_left self.new + 6 }
         ensures ids { ids_left self.old ≤ ids_left self.new + 1 }

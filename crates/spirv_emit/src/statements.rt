@@ -3,6 +3,7 @@ ghost use Rattle.std.specs.Prelude.{◌≡◌, ◌<◌, [], ◌∷◌, IsTrue};
 ghost use Rattle.kept_values.specs.Tables.{holds, limits_in};
 ghost use Rattle.kept_values.specs.declared.word.Word.TheVariants.{Scratch};
 ghost use Rattle.shader_tree.specs.Nodes.{has, a_word as the_word};
+ghost use Rattle.shader_tree.specs.Shape.{Loads as LoadsRoom, Stores as StoresRoom};
 ghost use Rattle.shader_tree.specs.Terms.{term_at, Set, Load as Loading, Store as Storing};
 ghost use Rattle.spirv_emit.specs.Blocks.{Alters, Meets, Sets, Loads, Stores};
 ghost use Rattle.spirv_emit.specs.Expressions.{May, Did};
@@ -43,7 +44,7 @@ impl Emitter {
         requires index { IsTrue (has tree.now.nodes (the_word index)) }
         requires held { IsTrue (holds (limits_in self.old.kept) (Scratch scratch)) }
         requires ready { IsReady self.old (Loading scratch room (term_at tree.now.nodes index)) }
-        ensures meets { Meets self.old self.new (Loads scratch room (term_at tree.now.nodes index)) }
+        ensures meets { Meets self.old self.new (LoadsRoom room) (Loads scratch room (term_at tree.now.nodes index)) }
         ensures spends { Spends self.old self.new (Loading scratch room (term_at tree.now.nodes index)) }
     {
         let at = self.emit_word(tree, index);
@@ -58,7 +59,7 @@ impl Emitter {
         requires index { IsTrue (has tree.now.nodes (the_word index)) }
         requires value { IsTrue (has tree.now.nodes (the_word value)) }
         requires ready { IsReady self.old (Storing room (term_at tree.now.nodes index) (term_at tree.now.nodes value)) }
-        ensures meets { Meets self.old self.new
+        ensures meets { Meets self.old self.new (StoresRoom room)
             (Stores room (term_at tree.now.nodes index) (term_at tree.now.nodes value)) }
         ensures spends { Spends self.old self.new
             (Storing room (term_at tree.now.nodes index) (term_at tree.now.nodes value)) }

@@ -1,6 +1,7 @@
 //! Barriers and fences.
-ghost use Rattle.std.specs.Prelude.{◌≡◌, ◌+◌, ◌≤◌};
+ghost use Rattle.std.specs.Prelude.{◌≡◌, ◌+◌, ◌≤◌, if◌then◌else◌};
 ghost use Rattle.shader_tree.specs.Costs.{words_in, ids_in};
+ghost use Rattle.shader_tree.specs.Shape.{Waits, Fences};
 ghost use Rattle.shader_tree.specs.Terms.{Sync};
 ghost use Rattle.spirv_emit.specs.Begun.{IsBegun};
 ghost use Rattle.spirv_emit.specs.Blocks.{Syncs, Meets};
@@ -41,7 +42,7 @@ impl Emitter {
         requires begun { IsBegun self.old }
         requires words { words_in (Sync threads order classes) ≤ words_left self.old }
         requires ids { ids_in (Sync threads order classes) ≤ ids_left self.old }
-        ensures meets { Meets self.old self.new (Syncs threads order classes) }
+        ensures meets { Meets self.old self.new (if threads then Waits else Fences) (Syncs threads order classes) }
         ensures begun { IsBegun self.new }
         ensures words { words_left self.old ≤ words_left self.new + words_in (Sync threads order classes) }
         ensures ids { ids_left self.old ≤ ids_left self.new + ids_in (Sync threads order classes) }

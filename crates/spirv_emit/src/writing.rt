@@ -1,11 +1,12 @@
 //! One instruction, one symbol, one id.
-ghost use Rattle.std.specs.Prelude.{◌≡◌, ℕ, ◌+◌, ◌≤◌, ◌<◌, ◌^◌, ◌∷◌, ◌++◌, length, IsTrue, Some};
+ghost use Rattle.std.specs.Prelude.{◌≡◌, ℕ, ◌+◌, ◌≤◌, ◌<◌, ◌^◌, ◌∷◌, ◌++◌, length, IsTrue, Some, false};
 ghost use Rattle.spirv_words.specs.Text.{instr, is_instr, words_of_instr};
 ghost use Rattle.spirv_symbols.specs.Rows.{needs, words_of};
 ghost use Rattle.spirv_symbols.specs.Tables.{Has, AreThere};
 ghost use Rattle.kept_values.specs.Tables.{holds, limits_in};
 ghost use Rattle.spirv_emit.specs.Begun.{IsBegun, IsThere};
 ghost use Rattle.spirv_emit.specs.Emission.{words_left, ids_left};
+ghost use Rattle.spirv_emit.specs.Growing.{is_global};
 ghost use Rattle.spirv_emit.specs.Steps.{Acts, Adds, Takes, Named, IsKept};
 
 use crate::emitter::Emitter;
@@ -93,9 +94,11 @@ impl Emitter {
         result
     }
 
-    /// The id of a symbol, which is made where there is none. What it needs must be there.
+    /// The id of a symbol that is no global variable's, which is made where there is none. What it needs must
+    /// be there.
     pub(crate) fn named(&mut self, symbol: Symbol) -> u32
         requires begun { IsBegun self.old }
+        requires own { is_global symbol ≡ false }
         requires needs { AreThere self.old.symbols.entries (needs self.old.frame.context symbol) self.old.symbols.next }
         requires words { words_of self.old.frame.context symbol ≤ words_left self.old }
         requires ids { 1 ≤ ids_left self.old }

@@ -38,4 +38,4 @@ returns-clause-meets c =
     c.args.kind
     (term_at ns c.args.index) (term_at ns c.args.a) (term_at ns c.args.b) c.room_pointer-pointer.ensures.begun c.emit_word-at.ensures.gives
     c.emit_word-first.ensures.gives
-    c.room_pointer-pointer.ensures.gives k.typed k.one k.none c.requires.one k.adds c.put.ensures.put
+    c.room_pointer-pointer.ensures.points k.typed k.one k.none c.requires.one k.adds c.put.ensures.put

@@ -50,5 +50,5 @@ returns-clause-meets c =
     k.unordered
     c.exchange-word.result k.type' c.args.room (term_at ns c.args.index) (term_at ns c.args.a) (term_at ns c.args.b)
     c.room_pointer-pointer.ensures.begun
-    c.emit_word-at.ensures.gives c.emit_word-first.ensures.gives c.emit_word-second.ensures.gives c.room_pointer-pointer.ensures.gives k.typed k.one
+    c.emit_word-at.ensures.gives c.emit_word-first.ensures.gives c.emit_word-second.ensures.gives c.room_pointer-pointer.ensures.points k.typed k.one
     k.none k.adds c.put.ensures.put

@@ -1,5 +1,6 @@
 use Rattle.std.proofs.Common.{refl, ◌∙◌, arith}
 use Rattle.spirv_emit.proofs.Growth.{same_on}
+use Rattle.spirv_emit.proofs.Room.{has_below}
 use Rattle.spirv_emit.proofs.emitter.Emitter.fresh_labels.Goals as goal
 
 pub loop-init : goal.loop-init
@@ -8,10 +9,10 @@ loop-init c = (
     same = record { frame = refl; limit = refl; capacity = refl; limits = refl };
     code = refl;
     entries = refl;
-    next =
-        omega (arith, c.next-first.ensures);
-    result = c.next-first.ensures;
+    next = omega arith;
+    result = refl;
     kept = refl;
+    symbols_below = λ s id h. has_below c.args.self.now.frame.context c.args.self.now.symbols s id c.requires.begun.table h;
   },
   c.requires.begun,
   refl,
@@ -31,6 +32,7 @@ loop-preserved c =
         next = let a = i.0.next in let b = f.takes.next in omega (arith, a, b);
         result = i.0.result;
         kept = f.takes.kept ∙ i.0.kept;
+        symbols_below = i.0.symbols_below;
       },
       f.begun,
       f.words ∙ i.2,

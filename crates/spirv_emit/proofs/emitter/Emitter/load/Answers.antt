@@ -15,4 +15,4 @@ returns-clause-meets c =
     c.emit_word-at.result
     c.room_pointer-pointer.result c.value-word.result c.word_type-type_id.result c.args.room (term_at c.args.tree.now.nodes c.args.index)
     c.emit_word-at.ensures.gives
-    c.room_pointer-pointer.ensures.gives c.word_type-type_id.ensures c.value-word.ensures.adds c.put.ensures.put
+    c.room_pointer-pointer.ensures.points c.word_type-type_id.ensures c.value-word.ensures.adds c.put.ensures.put

@@ -1,5 +1,6 @@
 use Rattle.spirv_emit.proofs.Kept.{found_gives, kept_gives}
 use Rattle.spirv_emit.proofs.Sources.{variable_needs, local_gives}
+use Rattle.spirv_emit.proofs.Locals.{own_variable}
 use Rattle.spirv_emit.proofs.emitter.Emitter.local_word.Goals as goal
 
 pub returns-in-Some-clause-gives : goal.returns-in-Some-clause-gives
@@ -7,6 +8,9 @@ returns-in-Some-clause-gives c = found_gives c.args.self.now c.args.word c.in-So
 
 pub named-place-requires-clause-needs : goal.named-place-requires-clause-needs
 named-place-requires-clause-needs c = variable_needs c.args.self.now c.args.word c.args.variable c.requires.variable c.requires.begun
+
+pub named-place-requires-clause-own : goal.named-place-requires-clause-own
+named-place-requires-clause-own c = own_variable c.args.word c.args.variable c.requires.variable
 
 pub returns-then-holds-clause-gives : goal.returns-then-holds-clause-gives
 returns-then-holds-clause-gives c =

@@ -6,7 +6,7 @@ pub put-requires-clause-room : goal.put-requires-clause-room
 put-requires-clause-room c = id_room c.args.self.now c.requires.ids
 
 pub returns-clause-named : goal.returns-clause-named
-returns-clause-named c = named_step c.args.self.now _ c.args.symbol c.put.result refl refl refl c.put.ensures
+returns-clause-named c = named_step c.args.self.now _ c.args.symbol c.put.result refl refl refl c.put.ensures c.requires.own
 
 pub returns-clause-begun : goal.returns-clause-begun
 returns-clause-begun c =

@@ -32,4 +32,4 @@ returns-clause-meets c =
     let ns = c.args.tree.now.nodes in
     store_meets c.args.self.now c.emit_word-at.new.self c.emit_word-word.new.self c.room_pointer-pointer.new.self c.act.new.self c.emit_word-at.result
     c.emit_word-word.result c.room_pointer-pointer.result c.args.room (term_at ns c.args.index) (term_at ns c.args.value) c.emit_word-at.ensures.gives
-    c.emit_word-word.ensures.gives c.room_pointer-pointer.ensures.gives c.act.ensures.acts
+    c.emit_word-word.ensures.gives c.room_pointer-pointer.ensures.points c.act.ensures.acts
