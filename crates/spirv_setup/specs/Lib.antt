@@ -1,0 +1,11 @@
+pub mod SharedSlots
+pub mod SharedPlaces
+pub mod Wanted
+pub mod Descriptions
+pub mod Variables
+pub mod Premises
+pub mod Naming
+pub mod Describing
+pub mod Setup
+pub mod Named
+pub mod Unopened
