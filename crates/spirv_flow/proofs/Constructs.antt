@@ -1,11 +1,14 @@
 -- Each construct's blocks, from what the calls that wrote them ensure.
-use Rattle.std.proofs.Common.{◌≡◌, ℕ, ◌+◌, ◌≤◌, inl, List, [], ◌∷◌, ◌++◌, Option, Some, None, Bool, true, refl, sym, ap, ◌∙◌, subst, arith, append_assoc, append-nil}
-use Rattle.std.specs.Prelude.{unwrap_or}
+use Rattle.std.proofs.Common.{◌≡◌, ℕ, ◌+◌, ◌≤◌, inl, inr, ⊎_elim, List, [], ◌∷◌, ◌++◌, Option, Some, None, Bool, true, refl, sym, ap, ◌∙◌, subst, arith, append_assoc, append-nil}
+use Rattle.std.specs.Prelude.{unwrap_or, map}
 use Rattle.kept_values.specs.Tables.{IsEmpty}
+use Rattle.shader_tree.specs.Shape.{OpensLoop, OpensSwitch, ClosesIt, cases_in, shape}
 use Rattle.shader_tree.specs.Terms.{Term}
 use Rattle.shader_tree.specs.Terms as term
 use Rattle.shader_tree.specs.Values.{IsWord, IsTruth}
+use Rattle.spirv_words.specs.Blocks.{flow_of}
 use Rattle.spirv_words.specs.Definitions.{results}
+use Rattle.spirv_words.specs.Globals.{Places}
 use Rattle.spirv_words.specs.Operations.{OpSwitch}
 use Rattle.spirv_words.specs.Text.{Instr, instruction}
 use Rattle.spirv_symbols.specs.declared.symbol.Symbol.TheVariants.{True}
@@ -16,15 +19,21 @@ use Rattle.spirv_emit.specs.Emission.{next_of}
 use Rattle.spirv_emit.specs.declared.emitter.Emitter.{Emitter as Emission}
 use Rattle.spirv_emit.specs.Growing.{Grows, Completes}
 use Rattle.spirv_emit.specs.Lanes.{Site}
+use Rattle.spirv_emit.specs.Linked.{IsLinked, StandsIn}
+use Rattle.spirv_emit.specs.ModuleShape.{Seen, shape_of}
 use Rattle.spirv_emit.specs.Values.{type_of_term}
 use Rattle.spirv_emit.specs.Blocks.{Ends, Begins}
 use Rattle.spirv_emit.specs.Steps.{Takes, TakesRow, Named}
+use Rattle.spirv_flow.specs.Labels.{labels_of}
 use Rattle.spirv_flow.specs.Layout.{Layout, Straight, Both, Guarded, Chosen, Looped, Switched, CaseAt, DefaultAt, Breaks, Continues, Returns, label, branch, merge, loop_merge, choose, leave, switch, cases, default, first_of, pairs, code_of}
 use Rattle.spirv_flow.specs.Lowering.{IsBody}
 use Rattle.spirv_flow.specs.Pieces.{Always}
-use Rattle.spirv_flow.specs.Lowers.{Holds, IsClean, LoweredIn, Written, Lowers, marks, cases_of, default_of, times, AtMost}
+use Rattle.spirv_flow.specs.Lowers.{Holds, IsClean, LoweredIn, IsTaken, Written, Lowers, marks, cases_of, default_of, times, AtMost}
+use Rattle.spirv_flow.specs.Shapes.{values, shape_in}
 use Rattle.spirv_flow.proofs.Composing.{IsGrowth, times_results, covers_behind, behind_append, typed_both, written_on, written_taken, written_end, written_label, one_id, joined, no_marks, with_marks, any_marks, both_marks, is_it, case_once}
+use Rattle.spirv_flow.proofs.Shapes.{in_front, behind as behind_code, between, behind_quiet, before_quiet, both_seen, closed, switch_values}
 use Rattle.spirv_flow.proofs.Pieces.{Piece, Results, Front, Flush, piece_once}
+use Rattle.spirv_flow.proofs.Taken.{AllLabels, IsMark, Later, later_by, later_then, later_same, widen, labels_both, labels_mapped, labels_plain, labels_last, guard_labels, choice_labels, loop_labels, switch_labels, away_labels, no_mark}
 
 -- A BODY in blocks of its own.
 pub record Body (a b c : Emission) (brk cont first : ℕ) (l t : Bool) (x : Term) (back : List Instr) : Type 0 where
@@ -118,6 +127,17 @@ module _ (growth : IsGrowth) where
         is_clean = h.flush.clean;
       }
 
+  body_shows : (a b c d : Emission) (brk cont first : ℕ) (l t : Bool) (x : Term) (back rest : List Instr)
+      → (h : Body a b c brk cont first l t x back) → Grows c d rest → (z : Site) (places : Places) → Completes d z → IsLinked z places
+      → StandsIn z (code_of h.lowers.layout brk cont ++ back)
+      → shape_in z.machine.code places (Both h.lowers.layout (Straight back)) ≡ map Seen (shape x)
+  body_shows a b c d brk cont first l t x back rest h g z places w linked here =
+      let at_c = growth.back c d rest z g w in
+      let code = code_of h.lowers.layout brk cont in
+      before_quiet (shape_in z.machine.code places h.lowers.layout) (shape_of z.machine.code places back) (map Seen (shape x))
+      (h.lowers.shows z places (growth.back b c back z h.flush.piece.written.grows at_c) linked (in_front z code back here))
+      (h.flush.piece.quiet z places at_c linked (behind_code z code back here))
+
   body_once : (id : ℕ) (a b c : Emission) (brk cont first : ℕ) (l t : Bool) (x : Term) (back : List Instr) → marks x ≡ 0
       → (h : Body a b c brk cont first l t x back)
       → AtMost id (next_of a) (next_of c) 0 0 (times id (results (code_of h.lowers.layout brk cont ++ back)))
@@ -127,6 +147,24 @@ module _ (growth : IsGrowth) where
       h.lowers.written.grows.next h.flush.piece.written.grows.next (times_results id code back)
       (no_marks id (next_of a) (next_of b) first (marks x) (times id (results code)) e (h.lowers.once id))
       (piece_once b c back h.flush.piece.written.grows h.flush.piece.plain id)
+
+  -- the labels of a body, and those of cases that stand directly in it
+  body_marks : (a b c : Emission) (brk cont first : ℕ) (l t : Bool) (x : Term) (back : List Instr) → (h : Body a b c brk cont first l t x back)
+      → AllLabels (IsMark a c first (marks x)) (code_of h.lowers.layout brk cont ++ back)
+  body_marks a b c brk cont first l t x back h =
+      let P = IsMark a c first (marks x) in
+      let rest = later_by b c back h.flush.piece.written.grows in
+      labels_both P (code_of h.lowers.layout brk cont) back
+      (labels_mapped (IsMark a b first (marks x)) P (code_of h.lowers.layout brk cont)
+      (λ id m. ⊎_elim (λ own. inl (widen a a b c id (later_same a) rest own)) (λ mark. inr mark) m) h.lowers.labels)
+      (labels_plain P back h.flush.piece.plain)
+
+  body_labels : (a b c : Emission) (brk cont first : ℕ) (l t : Bool) (x : Term) (back : List Instr) → marks x ≡ 0
+      → (h : Body a b c brk cont first l t x back)
+      → AllLabels (IsTaken a c) (code_of h.lowers.layout brk cont ++ back)
+  body_labels a b c brk cont first l t x back e h =
+      labels_mapped (IsMark a c first (marks x)) (IsTaken a c) (code_of h.lowers.layout brk cont ++ back)
+      (λ id m. no_mark a c first (marks x) id e m) (body_marks a b c brk cont first l t x back h)
 
   -- A GUARD.
   guard_list : (x body tail : List Instr) (a b c : Instr) → (x ++ (a ∷ b ∷ [])) ++ (c ∷ (body ++ tail)) ≡ x ++ (a ∷ b ∷ c ∷ (body ++ tail))
@@ -185,6 +223,11 @@ module _ (growth : IsGrowth) where
             any_marks id n0 (next_of e11) first 0 all (subst (λ k. AtMost id n0 k 0 0 all) (sym end)
             (two_labels id n0 n2 n9 i m tf tb all ti.result (tm.result ∙ ti.next) f.piece.written.grows.next (omega (arith, grown, same))
             (omega (arith, split, split2)) a1 a4));
+        labels = λ id h. inl (guard_labels e0 e2 e3 e4 e7 e9 e11 front code r i m f.piece.plain (later_by e0 e2 front f.piece.written.grows) ti tm
+            (later_then e4 e5 e7 (merge m ∷ []) em.grows (later_then e5 e6 e7 (choose r i m ∷ []) ec.grows
+            (later_by e6 e7 (label i ∷ []) bi.grows)))
+            (body_labels e7 e8 e9 brk cont first l t x back unmarked body)
+            (later_by e7 e9 code (body_written e7 e8 e9 brk cont first l t x back body).grows) (later_by e9 e11 last tail.grows) id h);
         law = λ z w.
             let at9 = growth.back e9 e11 last z tail.grows w in
             let at2 = growth.back e2 e11 (merge m ∷ choose r i m ∷ label i ∷ (code ++ last)) z
@@ -204,9 +247,29 @@ module _ (growth : IsGrowth) where
               is_body = body_in e7 e8 e9 e11 brk cont first l t x back last body tail.grows z w;
               behind = bm.empty;
             };
+        shows = λ z places w linked here.
+            let at2 = growth.back e2 e11 (merge m ∷ choose r i m ∷ label i ∷ (code ++ last)) z
+            (growth.on e2 e6 e11 (merge m ∷ choose r i m ∷ []) (label i ∷ (code ++ last))
+            (growth.on e2 e5 e6 (merge m ∷ []) (choose r i m ∷ []) merged.grows ec.grows) rest.grows) w in
+            behind_quiet (shape_of z.machine.code places front)
+            (shape_in z.machine.code places (Both body.lowers.layout (Straight back))) (map Seen (shape x))
+            (f.piece.quiet z places at2 linked (in_front z front (merge m ∷ choose r i m ∷ label i ∷ (code ++ last)) here))
+            (body_shows e7 e8 e9 e11 brk cont first l t x back last body tail.grows z places w linked
+            (between z front (merge m ∷ choose r i m ∷ label i ∷ []) code last here));
       }
 
   -- TWO STATEMENTS, and none.
+  both_taken : (a b c : Emission) (first p q : ℕ) (x y : List Instr) → Later a b → Later b c → AllLabels (IsMark a b first p) x
+      → AllLabels (IsMark b c (first + p) q) y → AllLabels (IsMark a c first (p + q)) (x ++ y)
+  both_taken a b c first p q x y g h i j =
+      let P = IsMark a c first (p + q) in
+      labels_both P x y
+      (labels_mapped (IsMark a b first p) P x
+      (λ id m. ⊎_elim (λ own. inl (widen a a b c id (later_same a) h own)) (λ mark. inr (mark.0, omega (arith, mark.1))) m) i)
+      (labels_mapped (IsMark b c (first + p) q) P y
+      (λ id m. ⊎_elim (λ own. inl (widen a b c c id g (later_same c) own))
+      (λ mark. inr (omega (arith, mark.0), omega (arith, mark.1))) m) j)
+
   pub lowers_both : (a b c : Emission) (brk cont first : ℕ) (l t : Bool) (x y : Term) → first + marks x + marks y ≤ next_of a
       → Lowers a b brk cont first l t x → Lowers b c brk cont (first + marks x) l t y → Lowers a c brk cont first l t (term.Then x y)
   lowers_both a b c brk cont first l t x y older g h = record {
@@ -219,7 +282,14 @@ module _ (growth : IsGrowth) where
         (times id (results (code_of h.layout brk cont)))
         (times id (results (code_of g.layout brk cont ++ code_of h.layout brk cont))) g.written.grows.next h.written.grows.next older
         (times_results id (code_of g.layout brk cont) (code_of h.layout brk cont)) (g.once id) (h.once id);
+    labels = λ id i. both_taken a b c first (marks x) (marks y) (code_of g.layout brk cont) (code_of h.layout brk cont)
+        (later_by a b (code_of g.layout brk cont) g.written.grows) (later_by b c (code_of h.layout brk cont) h.written.grows) g.labels h.labels id i;
     law = λ z w. (b.kept, g.layout, h.layout, refl, g.law z (growth.back b c (code_of h.layout brk cont) z h.written.grows w), h.law z w);
+    shows = λ z places w linked here.
+        both_seen (shape_in z.machine.code places g.layout) (shape_in z.machine.code places h.layout) (shape x) (shape y)
+        (g.shows z places (growth.back b c (code_of h.layout brk cont) z h.written.grows w) linked
+        (in_front z (code_of g.layout brk cont) (code_of h.layout brk cont) here))
+        (h.shows z places w linked (behind_code z (code_of g.layout brk cont) (code_of h.layout brk cont) here));
   }
 
   pub lowers_nothing : (a : Emission) (brk cont first : ℕ) (l t : Bool) → Grows a a [] → Lowers a a brk cont first l t term.Nothing
@@ -230,7 +300,9 @@ module _ (growth : IsGrowth) where
     default' = refl;
     written = record { grows = g; known = λ z w globals known cg ck kept. record { typed = tt; kept = kept } };
     once = λ id. inl refl;
+    labels = λ id h. absurd h;
     law = λ z w. (refl, refl);
+    shows = λ z places w linked here. refl;
   }
 
   -- A CASE and a default.
@@ -249,6 +321,22 @@ module _ (growth : IsGrowth) where
       (piece_once a b front f.piece.written.grows f.piece.plain id)
       (subst (λ n. AtMost id n (next_of e) (first + 1) (marks x) (times id (results code))) same (h.once id))
 
+  mark_labels : (a b c d e : Emission) (brk cont first : ℕ) (l t : Bool) (x : Term) (front : List Instr) → Flush a b front
+      → Ends b c (branch first ∷ []) → Begins c d first
+      → (h : Lowers d e brk cont (first + 1) l t x)
+      → AllLabels (IsMark a e first (marks x + 1)) ((front ++ (branch first ∷ label first ∷ [])) ++ code_of h.layout brk cont)
+  mark_labels a b c d e brk cont first l t x front f eb bl h =
+      let P = IsMark a e first (marks x + 1) in
+      let code = code_of h.layout brk cont in
+      let mark = branch first ∷ label first ∷ [] in
+      let to_d = later_then a b d front f.piece.written.grows (later_then b c d (branch first ∷ []) eb.grows
+      (later_by c d (label first ∷ []) bl.grows)) in
+      labels_both P (front ++ mark) code
+      (labels_both P front mark (labels_plain P front f.piece.plain) (labels_last P first (inr (omega arith, omega arith))))
+      (labels_mapped (IsMark d e (first + 1) (marks x)) P code
+      (λ id m. ⊎_elim (λ own. inl (widen a d e e id to_d (later_same e) own))
+      (λ own. inr (omega (arith, own.0), omega (arith, own.1))) m) h.labels)
+
   mark_written : (a b c d e : Emission) (brk cont first : ℕ) (l t : Bool) (x : Term) (front : List Instr) → Flush a b front
       → Ends b c (branch first ∷ []) → Begins c d first
       → (h : Lowers d e brk cont (first + 1) l t x) → Written a e ((front ++ (branch first ∷ label first ∷ [])) ++ code_of h.layout brk cont)
@@ -256,6 +344,21 @@ module _ (growth : IsGrowth) where
       let mark = branch first ∷ label first ∷ [] in
       written_on growth a d e (front ++ mark) (code_of h.layout brk cont) (written_on growth a b d front mark f.piece.written
       (jump_written b c d first first eb bl)) h.written
+
+  mark_shows : (a b c d e : Emission) (brk cont first : ℕ) (l t : Bool) (x : Term) (front : List Instr) → Flush a b front
+      → Ends b c (branch first ∷ []) → Begins c d first
+      → (h : Lowers d e brk cont (first + 1) l t x) (z : Site) (places : Places) → Completes e z → IsLinked z places
+      → StandsIn z ((front ++ (branch first ∷ label first ∷ [])) ++ code_of h.layout brk cont)
+      → (shape_of z.machine.code places front ++ []) ++ shape_in z.machine.code places h.layout ≡ map Seen (shape x)
+  mark_shows a b c d e brk cont first l t x front f eb bl h z places w linked here =
+      let mark = branch first ∷ label first ∷ [] in
+      let code = code_of h.layout brk cont in
+      let at_d = growth.back d e code z h.written.grows w in
+      let at_b = growth.back b d mark z (jump_written b c d first first eb bl).grows at_d in
+      behind_quiet (shape_of z.machine.code places front ++ []) (shape_in z.machine.code places h.layout) (map Seen (shape x))
+      (before_quiet (shape_of z.machine.code places front) [] []
+      (f.piece.quiet z places at_b linked (in_front z front mark (in_front z (front ++ mark) code here))) refl)
+      (h.shows z places w linked (behind_code z (front ++ mark) code here))
 
   pub lowers_case : (a b c d e : Emission) (brk cont first : ℕ) (l t : Bool) (v : ℕ) (x : Term) (front : List Instr) → first + marks x + 1 ≤ next_of a
       → Flush a b front → Ends b c (branch first ∷ [])
@@ -267,6 +370,7 @@ module _ (growth : IsGrowth) where
     default' = h.default';
     written = mark_written a b c d e brk cont first l t x front f eb bl h;
     once = λ id. mark_once id a b c d e brk cont first l t x front older f eb bl h;
+    labels = λ id i. mark_labels a b c d e brk cont first l t x front f eb bl h id i;
     law = λ z w.
         let at_d = growth.back d e (code_of h.layout brk cont) z h.written.grows w in (
           front,
@@ -282,6 +386,7 @@ module _ (growth : IsGrowth) where
             lowers = h.law z w;
           },
         );
+    shows = λ z places w linked here. mark_shows a b c d e brk cont first l t x front f eb bl h z places w linked here;
   }
 
   pub lowers_default : (a b c d e : Emission) (brk cont first : ℕ) (l t : Bool) (x : Term) (front : List Instr) → first + marks x + 1 ≤ next_of a
@@ -294,6 +399,7 @@ module _ (growth : IsGrowth) where
     default' = refl;
     written = mark_written a b c d e brk cont first l t x front f eb bl h;
     once = λ id. mark_once id a b c d e brk cont first l t x front older f eb bl h;
+    labels = λ id i. mark_labels a b c d e brk cont first l t x front f eb bl h id i;
     law = λ z w.
         let at_d = growth.back d e (code_of h.layout brk cont) z h.written.grows w in (
           front,
@@ -309,6 +415,7 @@ module _ (growth : IsGrowth) where
             lowers = h.law z w;
           },
         );
+    shows = λ z places w linked here. mark_shows a b c d e brk cont first l t x front f eb bl h z places w linked here;
   }
 
   -- A LOOP.
@@ -387,6 +494,13 @@ module _ (growth : IsGrowth) where
             (four_labels id n0 n1 n12 h i c m tf tb all th.result (ti.result ∙ th.next) (omega (arith, tc.result, ti.next, th.next))
             (omega (arith, tm.result, tc.next, ti.next, th.next))
             f.piece.written.grows.next (omega (arith, grown, same)) (omega (arith, times_results id front rest, times_results id code last)) a1 a4));
+        labels = λ id j. inl (loop_labels e0 e1 e2 e3 e4 e5 e10 e12 e16 front code h i c m f.piece.plain
+            (later_by e0 e1 front f.piece.written.grows) th ti tc tm
+            (later_then e5 e6 e10 (branch h ∷ []) eh.grows (later_then e6 e7 e10 (label h ∷ []) bh.grows
+            (later_then e7 e8 e10 (loop_merge m c ∷ []) el.grows (later_then e8 e9 e10 (branch i ∷ []) ei.grows
+            (later_by e9 e10 (label i ∷ []) bi.grows)))))
+            (body_labels e10 e11 e12 m c first true true x back unmarked body)
+            (later_by e10 e12 code (body_written e10 e11 e12 m c first true true x back body).grows) (later_by e12 e16 last tail.grows) id j);
         law = λ z w. record {
           front = front;
           back = back;
@@ -402,6 +516,14 @@ module _ (growth : IsGrowth) where
           is_body = body_in e10 e11 e12 e16 m c first true true x back last body tail.grows z w;
           behind = bm.empty;
         };
+        shows = λ z places w linked here.
+            behind_quiet (shape_of z.machine.code places front)
+            (Seen OpensLoop ∷ (shape_in z.machine.code places (Both body.lowers.layout (Straight back)) ++ Seen ClosesIt ∷ []))
+            (map Seen (shape (term.Loop x)))
+            (f.piece.quiet z places (growth.back e1 e16 rest z behind.grows w) linked (in_front z front rest here))
+            (closed OpensLoop (shape_in z.machine.code places (Both body.lowers.layout (Straight back))) (shape x)
+            (body_shows e10 e11 e12 e16 m c first true true x back last body tail.grows z places w linked
+            (between z front (branch h ∷ label h ∷ loop_merge m c ∷ branch i ∷ label i ∷ []) code last here)));
       }
 
   -- A CHOICE.
@@ -486,6 +608,15 @@ module _ (growth : IsGrowth) where
             (omega (arith, tm.result, tj.next, ti.next)) f.piece.written.grows.next
             (omega (arith, grown, same)) between (body_written e12 e13 e14 brk cont first l t y back' body').grows.next
             (omega (arith, times_results id front all_code, times_results id code second, times_results id code' last)) a1 a4 a5));
+        labels = λ id h. inl (choice_labels e0 e2 e3 e4 e5 e8 e10 e12 e14 e16 front code code' r i j m f.piece.plain
+            (later_by e0 e2 front f.piece.written.grows) ti tj tm
+            (later_then e5 e6 e8 (merge m ∷ []) em.grows (later_then e6 e7 e8 (choose r i j ∷ []) ec.grows
+            (later_by e7 e8 (label i ∷ []) bi.grows)))
+            (body_labels e8 e9 e10 brk cont first l t x back ux body)
+            (later_by e8 e10 code (body_written e8 e9 e10 brk cont first l t x back body).grows)
+            (later_then e10 e11 e12 (branch m ∷ []) eb.grows (later_by e11 e12 (label j ∷ []) bj.grows))
+            (body_labels e12 e13 e14 brk cont first l t y back' uy body')
+            (later_by e12 e14 code' (body_written e12 e13 e14 brk cont first l t y back' body').grows) (later_by e14 e16 last tail.grows) id h);
         law = λ z w.
             let at2 = growth.back e2 e16 all_code z
             (growth.on e2 e7 e16 (merge m ∷ choose r i j ∷ []) (label i ∷ (code ++ second))
@@ -508,6 +639,19 @@ module _ (growth : IsGrowth) where
               is_second = body_in e12 e13 e14 e16 brk cont first l t y back' last body' tail.grows z w;
               behind = bm.empty;
             };
+        shows = λ z places w linked here.
+            let at2 = growth.back e2 e16 all_code z
+            (growth.on e2 e7 e16 (merge m ∷ choose r i j ∷ []) (label i ∷ (code ++ second))
+            (growth.on e2 e6 e7 (merge m ∷ []) (choose r i j ∷ []) merged.grows ec.grows) rest.grows) w in
+            let head = merge m ∷ choose r i j ∷ label i ∷ [] in
+            let a = shape_in z.machine.code places (Both body.lowers.layout (Straight back)) in
+            let b = shape_in z.machine.code places (Both body'.lowers.layout (Straight back')) in
+            behind_quiet (shape_of z.machine.code places front) (a ++ b) (map Seen (shape (term.If e x y)))
+            (f.piece.quiet z places at2 linked (in_front z front all_code here))
+            (both_seen a b (shape x) (shape y)
+            (body_shows e8 e9 e10 e16 brk cont first l t x back second body mid.grows z places w linked (between z front head code second here))
+            (body_shows e12 e13 e14 e16 brk cont first l t y back' last body' tail.grows z places w linked
+            (between z code (branch m ∷ label j ∷ []) code' last (behind_code z head (code ++ second) (behind_code z front all_code here)))));
       }
 
   -- A SWITCH. The labels of its cases were taken in a row.
@@ -623,6 +767,12 @@ module _ (growth : IsGrowth) where
             f.piece.written.grows.next
             (omega (arith, start, lowered.written.grows.next, body.flush.piece.written.grows.next))
             (omega (arith, times_results id front all_code, times_results id code last)) a1 b2));
+        labels = λ id h. inl (switch_labels e0 e2 e3 e4 e5 e8 e10 e12 front code i m first (marks x)
+            (switch r m (Both body.lowers.layout (Straight back))) refl f.piece.plain (later_by e0 e2 front f.piece.written.grows) ti tm row
+            (later_then e5 e6 e8 (merge m ∷ []) em.grows (later_then e6 e7 e8 (own ∷ []) ec.grows
+            (later_by e7 e8 (label i ∷ []) bi.grows)))
+            (body_marks e8 e9 e10 m cont first l true x back body)
+            (later_by e8 e10 code (body_written e8 e9 e10 m cont first l true x back body).grows) (later_by e10 e12 last tail.grows) id h);
         law = λ z w.
             let at2 = growth.back e2 e12 (merge m ∷ own ∷ label i ∷ (code ++ last)) z
             (growth.on e2 e7 e12 (merge m ∷ own ∷ []) (label i ∷ (code ++ last)) (growth.on e2 e6 e7 (merge m ∷ []) (own ∷ []) merged.grows ec.grows)
@@ -641,6 +791,19 @@ module _ (growth : IsGrowth) where
               is_body = body_in e8 e9 e10 e12 m cont first l true x back last body tail.grows z w;
               behind = bm.empty;
             };
+        shows = λ z places w linked here.
+            let at2 = growth.back e2 e12 (merge m ∷ own ∷ label i ∷ (code ++ last)) z
+            (growth.on e2 e7 e12 (merge m ∷ own ∷ []) (label i ∷ (code ++ last)) (growth.on e2 e6 e7 (merge m ∷ []) (own ∷ []) merged.grows ec.grows)
+            rest.grows) w in
+            let in_body = Both body.lowers.layout (Straight back) in
+            let head = merge m ∷ switch r m in_body ∷ label i ∷ [] in
+            let inside = shape_in z.machine.code places in_body in
+            behind_quiet (shape_of z.machine.code places front) (Seen (OpensSwitch (values (cases in_body))) ∷ (inside ++ Seen ClosesIt ∷ []))
+            (map Seen (shape (term.Switch on x)))
+            (f.piece.quiet z places at2 linked (in_front z front (head ++ (code ++ last)) here))
+            (ap (λ vs. Seen (OpensSwitch vs) ∷ (inside ++ Seen ClosesIt ∷ [])) (switch_values body.lowers.layout back x first body.lowers.cases')
+            ∙ closed (OpensSwitch (cases_in x)) inside (shape x)
+            (body_shows e8 e9 e10 e12 m cont first l true x back last body tail.grows z places w linked (between z front head code last here)));
       }
 
   -- AWAY. A break, a continue and a return stand under a truth that always holds.
@@ -663,6 +826,7 @@ module _ (growth : IsGrowth) where
                 let k = f.piece.written.known z (growth.back b c [] z h.grows w) globals known cg ck kept in
                 record { typed = k.typed; kept = subst (λ t. CoversKept z.names t (behind globals known code)) (sym h.kept) k.kept };
           };
+          quiet = λ z places w linked here. f.piece.quiet z places (growth.back b c [] z h.grows w) linked here;
         };
         known = record {
           result = λ z w globals known cg ck kept. covers_behind z.names z.frame.context globals known code cg ck True symbol.Truth r
@@ -728,6 +892,18 @@ module _ (growth : IsGrowth) where
             (growth.on e2 e6 e7 (merge m ∷ []) (choose r i m ∷ []) merged.grows ec.grows) rest.grows,
       )
 
+  away_taken : (e0 e2 e3 e4 e5 e6 e7 e8 e9 e10 e11 e12 : Emission) (front : List Instr) (r i m n : ℕ) (leads : Instr)
+      → labels_of (flow_of leads) ≡ [] → AwayFront e0 e2 front r → Takes e2 e3 i → Takes e3 e4 m
+      → Takes e4 e5 n → Ends e5 e6 (merge m ∷ []) → Ends e6 e7 (choose r i m ∷ []) → Begins e7 e8 i → Written e8 e9 (leads ∷ [])
+      → Begins e9 e10 n → Ends e10 e11 (branch m ∷ []) → Begins e11 e12 m
+      → AllLabels (IsTaken e0 e12) (front ++ (merge m ∷ choose r i m ∷ label i ∷ ((leads ∷ label n ∷ []) ++ (branch m ∷ label m ∷ []))))
+  away_taken e0 e2 e3 e4 e5 e6 e7 e8 e9 e10 e11 e12 front r i m n leads none f ti tm tn em ec bi wl bn eb bm =
+      away_labels e0 e2 e3 e4 e5 e12 front r i m n leads none f.piece.plain (later_by e0 e2 front f.piece.written.grows) ti tm tn
+      (later_then e5 e6 e12 (merge m ∷ []) em.grows (later_then e6 e7 e12 (choose r i m ∷ []) ec.grows
+      (later_then e7 e8 e12 (label i ∷ []) bi.grows (later_then e8 e9 e12 (leads ∷ []) wl.grows
+      (later_then e9 e10 e12 (label n ∷ []) bn.grows (later_then e10 e11 e12 (branch m ∷ []) eb.grows
+      (later_by e11 e12 (label m ∷ []) bm.grows)))))))
+
   pub lowers_break : (e0 e2 e3 e4 e5 e6 e7 e8 e9 e10 e11 e12 : Emission) (brk cont first : ℕ) (l t : Bool) (front : List Instr) (r i m n : ℕ)
       → t ≡ true → AwayFront e0 e2 front r → IsClean e2.kept
       → Takes e2 e3 i → Takes e3 e4 m → Takes e4 e5 n → Ends e5 e6 (merge m ∷ []) → Ends e6 e7 (choose r i m ∷ []) → Begins e7 e8 i
@@ -745,9 +921,14 @@ module _ (growth : IsGrowth) where
         written = a.0;
         once = λ id. any_marks id (next_of e0) (next_of e12) first 0
             (times id (results (code_of (Both (Straight front) (Guarded r i m (Breaks n))) brk cont))) (a.1 id);
+        labels = λ id h. inl (away_taken e0 e2 e3 e4 e5 e6 e7 e8 e9 e10 e11 e12 front r i m n (branch brk) refl f ti tm tn em ec bi written bn eb bm id h);
         law = λ z w.
             let at2 = growth.back e2 e12 (merge m ∷ choose r i m ∷ label i ∷ ((branch brk ∷ label n ∷ []) ++ (branch m ∷ label m ∷ []))) z a.2 w in
             (front, r, i, m, n, refl, record { clean = e2.kept; always = f.law z at2; is_clean = clean; behind = bm.empty });
+        shows = λ z places w linked here.
+            let rest = merge m ∷ choose r i m ∷ label i ∷ ((branch brk ∷ label n ∷ []) ++ (branch m ∷ label m ∷ [])) in
+            before_quiet (shape_of z.machine.code places front) [] []
+            (f.piece.quiet z places (growth.back e2 e12 rest z a.2 w) linked (in_front z front rest here)) refl;
       }
 
   pub lowers_continue : (e0 e2 e3 e4 e5 e6 e7 e8 e9 e10 e11 e12 : Emission) (brk cont first : ℕ) (l t : Bool) (front : List Instr) (r i m n : ℕ)
@@ -767,9 +948,14 @@ module _ (growth : IsGrowth) where
         written = a.0;
         once = λ id. any_marks id (next_of e0) (next_of e12) first 0
             (times id (results (code_of (Both (Straight front) (Guarded r i m (Continues n))) brk cont))) (a.1 id);
+        labels = λ id h. inl (away_taken e0 e2 e3 e4 e5 e6 e7 e8 e9 e10 e11 e12 front r i m n (branch cont) refl f ti tm tn em ec bi written bn eb bm id h);
         law = λ z w.
             let at2 = growth.back e2 e12 (merge m ∷ choose r i m ∷ label i ∷ ((branch cont ∷ label n ∷ []) ++ (branch m ∷ label m ∷ []))) z a.2 w in
             (front, r, i, m, n, refl, record { clean = e2.kept; always = f.law z at2; is_clean = clean; behind = bm.empty });
+        shows = λ z places w linked here.
+            let rest = merge m ∷ choose r i m ∷ label i ∷ ((branch cont ∷ label n ∷ []) ++ (branch m ∷ label m ∷ [])) in
+            before_quiet (shape_of z.machine.code places front) [] []
+            (f.piece.quiet z places (growth.back e2 e12 rest z a.2 w) linked (in_front z front rest here)) refl;
       }
 
   pub lowers_return : (e0 e2 e3 e4 e5 e6 e7 e8 e9 e10 e11 e12 : Emission) (brk cont first : ℕ) (l t : Bool) (front : List Instr) (r i m n : ℕ)
@@ -789,7 +975,12 @@ module _ (growth : IsGrowth) where
         written = a.0;
         once = λ id. any_marks id (next_of e0) (next_of e12) first 0
             (times id (results (code_of (Both (Straight front) (Guarded r i m (Returns n))) brk cont))) (a.1 id);
+        labels = λ id h. inl (away_taken e0 e2 e3 e4 e5 e6 e7 e8 e9 e10 e11 e12 front r i m n leave refl f ti tm tn em ec bi written bn eb bm id h);
         law = λ z w.
             let at2 = growth.back e2 e12 (merge m ∷ choose r i m ∷ label i ∷ ((leave ∷ label n ∷ []) ++ (branch m ∷ label m ∷ []))) z a.2 w in
             (front, r, i, m, n, refl, e2.kept, f.law z at2);
+        shows = λ z places w linked here.
+            let rest = merge m ∷ choose r i m ∷ label i ∷ ((leave ∷ label n ∷ []) ++ (branch m ∷ label m ∷ [])) in
+            before_quiet (shape_of z.machine.code places front) [] []
+            (f.piece.quiet z places (growth.back e2 e12 rest z a.2 w) linked (in_front z front rest here)) refl;
       }

@@ -57,7 +57,7 @@ of_value parts [] h = refl
 of_value parts (t ∷ []) h = refl
 of_value parts (t ∷ r ∷ os) h = ap (λ l. r ∷ l) (nothing parts os h)
 
-abbrev behind_two : List Part → List Part
+abbrev pub behind_two : List Part → List Part
 behind_two (a ∷ b ∷ parts) = parts
 behind_two parts = []
 
@@ -65,7 +65,7 @@ in_no_body : (b : Bool) → cond b Local Plain ≡ Plain → cond b Body Declara
 in_no_body true p q = absurd (cc)
 in_no_body false p q = absurd (cc)
 
-no_variable : (os : List ℕ) → variable_flow os ≡ Plain → variable_section os ≡ Body → ⊥
+pub no_variable : (os : List ℕ) → variable_flow os ≡ Plain → variable_section os ≡ Body → ⊥
 no_variable [] p q = absurd (cc)
 no_variable (t ∷ []) p q = absurd (cc)
 no_variable (t ∷ r ∷ []) p q = absurd (cc)

@@ -1,6 +1,6 @@
 -- Statements of one step, from what the calls that wrote them ensure.
-use Rattle.std.proofs.Common.{◌≡◌, ℕ, ◌<◌, List, [], ◌∷◌, Option, Some, None, Bool, true, false, refl, sym, arith}
-use Rattle.std.specs.Prelude.{nat_lt, cond, Ok}
+use Rattle.std.proofs.Common.{◌≡◌, ℕ, ◌<◌, inl, List, [], ◌∷◌, Option, Some, None, Bool, true, false, refl, sym, arith}
+use Rattle.std.specs.Prelude.{nat_lt, cond, Ok, map}
 use Rattle.std.proofs.lemmas.Bool.Decides.{nat_tests}
 use Rattle.kept_values.specs.Tables.{IsEmpty}
 use Rattle.word_base.specs.declared.event.Act.{Act}
@@ -15,6 +15,8 @@ use Rattle.word_base.specs.Settings.{Setting}
 use Rattle.shader_tree.specs.Chains.{Run}
 use Rattle.shader_tree.specs.Holding.{AreGiven, HoldWords, OfWords, IsOfWords, Keeps}
 use Rattle.shader_tree.specs.declared.node.Space.{Space}
+use Rattle.shader_tree.specs.Shape.{Item, shape}
+use Rattle.shader_tree.specs.Shape as shapes
 use Rattle.shader_tree.specs.Terms.{Term}
 use Rattle.shader_tree.specs.Terms as term
 use Rattle.shader_tree.specs.Values.{Spaces, Words, words, Value, IsWord, IsTruth, size_of, value}
@@ -22,20 +24,24 @@ use Rattle.shader_tree.specs.Lane as tree
 use Rattle.spirv_words.specs.Memory.{takes_stores}
 use Rattle.spirv_words.specs.Text.{Instr}
 use Rattle.spirv_words.specs.Definitions.{results}
+use Rattle.spirv_words.specs.Globals.{Places}
 use Rattle.spirv_words.specs.Lane.{State}
 use Rattle.spirv_emit.specs.Code.{Typed, Covers, CoversKept}
 use Rattle.spirv_emit.specs.Emission.{next_of, spaces_of}
 use Rattle.spirv_emit.specs.declared.emitter.Emitter.{Emitter as Emission}
 use Rattle.spirv_emit.specs.Growing.{Grows, Completes}
 use Rattle.spirv_emit.specs.Lanes.{Site, HasAt}
+use Rattle.spirv_emit.specs.Linked.{IsLinked, StandsIn}
+use Rattle.spirv_emit.specs.ModuleShape.{Seen, shape_of}
 use Rattle.spirv_emit.specs.Values.{Knowing}
 use Rattle.spirv_emit.specs.Blocks.{Alters, Meets, Sets, Writes, Loads, Stores, Atomics, Syncs}
 use Rattle.spirv_flow.specs.Layout.{Straight, ArePlain}
 use Rattle.spirv_flow.specs.Lowering.{Lowered}
-use Rattle.spirv_flow.specs.Lowers.{Holds, IsClean, Lowers, marks, cases_of, default_of, times}
+use Rattle.spirv_flow.specs.Lowers.{Holds, IsClean, IsTaken, Lowers, marks, cases_of, default_of, times}
 use Rattle.spirv_flow.specs.Pieces.{Answers}
 use Rattle.spirv_flow.proofs.Composing.{any_marks}
 use Rattle.spirv_flow.proofs.Pieces.{piece_once}
+use Rattle.spirv_flow.proofs.Taken.{labels_plain}
 
 -- what is proved of the tree's lane: its words stay words
 pub record IsKeeping : Type 0 where
@@ -70,8 +76,10 @@ module _ (keeping : IsKeeping) where
       → ((z : Site) → Completes b z → (globals known : List Typed) → Covers z.names z.frame.context known → CoversKept z.names a.kept known
       → Knowing z.names globals known seg b.kept [])
       → ((z : Site) → Completes b z → Lowered z.machine (Holds z) IsClean IsEmpty (spaces_of z.frame) x (Straight seg) a.kept b.kept)
+      → ((z : Site) (places : Places) → Completes b z → IsLinked z places → StandsIn z seg
+      → shape_of z.machine.code places seg ≡ map Seen (shape x))
       → Lowers a b brk cont first l t x
-  leaf a b brk cont first l t x seg m c d grows plain known law = record {
+  leaf a b brk cont first l t x seg m c d grows plain known law shows = record {
     layout = Straight seg;
     placed = plain;
     cases' = sym c;
@@ -82,7 +90,9 @@ module _ (keeping : IsKeeping) where
           record { typed = q.typed; kept = q.kept };
     };
     once = λ id. any_marks id (next_of a) (next_of b) first (marks x) (times id (results seg)) (piece_once a b seg grows plain id);
+    labels = λ id h. inl (labels_plain (IsTaken a b) seg plain id h);
     law = law;
+    shows = shows;
   }
 
   pub lowers_set : (a b : Emission) (brk cont first : ℕ) (l t : Bool) (n : ℕ) (v : Term) (h : Alters a b (Sets n v)) → ArePlain h.seg
@@ -96,6 +106,7 @@ module _ (keeping : IsKeeping) where
             does_set z a b n v h full s w here holds (value (spaces_of z.frame) z.machine.setting w v) refl
             (keeps_words z a b (term.Set n v) w full of holds.words),
       ))
+      h.quiet
 
   -- A WRITE.
   abbrev wrote : Words → Registers → Turn tree.State
@@ -140,19 +151,20 @@ module _ (keeping : IsKeeping) where
             (value (spaces_of z.frame) z.machine.setting w v) refl refl
             (keeps_words z a b (term.Write space at v) w full of holds.words),
       ))
+      h.quiet
 
   -- EVENTS.
   abbrev asked : Event → (ℕ → Words) → Turn tree.State
   asked e u = Asks e (λ a. tree.state [] (u a) 0)
 
-  met : (z : Site) (a b : Emission) (E : Site → Words → Event → (ℕ → Words) → Type 0) (h : Meets a b E) → Completes b z → (s : State) (w : Words)
+  met : (z : Site) (a b : Emission) (item : Item) (E : Site → Words → Event → (ℕ → Words) → Type 0) (h : Meets a b item E) → Completes b z → (s : State) (w : Words)
       → HasAt z.machine.code s.place h.seg
       → Holds z a.kept s w → (e : Event) (u : ℕ → Words) → E z w e u → Keeps (asked e u) → Answers z.machine (Holds z) (asked e u) h.seg b.kept s
-  met z a b E h full s w here holds e u x k =
+  met z a b item E h full s w here holds e u x k =
       let r = h.law z full s w e u (record { here = here; mirrors = holds.mirrors; words = holds.words }) x in
       (r.0, r.1, r.2, r.3, r.4, r.5, λ answer lt. let c = r.6 answer lt in (c.place, record { mirrors = c.mirrors; words = (k answer lt).words }))
 
-  does_load : (z : Site) (a b : Emission) (n : ℕ) (room : Room) (at : Term) (h : Meets a b (Loads n room at)) → Completes b z
+  does_load : (z : Site) (a b : Emission) (n : ℕ) (room : Room) (at : Term) (h : Meets a b (shapes.Loads room) (Loads n room at)) → Completes b z
       → (s : State) (w : Words) → HasAt z.machine.code s.place h.seg
       → Holds z a.kept s w → (o : Option Value) → value (spaces_of z.frame) z.machine.setting w at ≡ o
       → Keeps (tree.on_word o (λ i. tree.within i (z.machine.setting.extent room)
@@ -167,10 +179,10 @@ module _ (keeping : IsKeeping) where
         → Keeps (cond c (asked (event.Load room i) (λ answer. tree.with_scratch w n answer)) tree.wrong)
         → Answers z.machine (Holds z) (cond c (asked (event.Load room i) (λ answer. tree.with_scratch w n answer)) tree.wrong) h.seg b.kept s
     inside false d k = tt
-    inside true d k = met z a b (Loads n room at) h full s w here holds (event.Load room i) (λ answer. tree.with_scratch w n answer)
+    inside true d k = met z a b (shapes.Loads room) (Loads n room at) h full s w here holds (event.Load room i) (λ answer. tree.with_scratch w n answer)
         (i, e, is_less i (z.machine.setting.extent room) d, refl, refl) k
 
-  pub lowers_load : (a b : Emission) (brk cont first : ℕ) (l t : Bool) (n : ℕ) (room : Room) (at : Term) (h : Meets a b (Loads n room at))
+  pub lowers_load : (a b : Emission) (brk cont first : ℕ) (l t : Bool) (n : ℕ) (room : Room) (at : Term) (h : Meets a b (shapes.Loads room) (Loads n room at))
       → ArePlain h.seg → OfWords (term.Load n room at)
       → Lowers a b brk cont first l t (term.Load n room at)
   lowers_load a b brk cont first l t n room at h plain of = leaf a b brk cont first l t (term.Load n room at) h.seg refl refl refl h.grows plain
@@ -182,8 +194,9 @@ module _ (keeping : IsKeeping) where
             does_load z a b n room at h full s w here holds (value (spaces_of z.frame) z.machine.setting w at) refl
             (keeps_words z a b (term.Load n room at) w full of holds.words),
       ))
+      h.shows
 
-  does_store : (z : Site) (a b : Emission) (room : Room) (at v : Term) (h : Meets a b (Stores room at v)) → takes_stores room ≡ Ok 0 → Completes b z
+  does_store : (z : Site) (a b : Emission) (room : Room) (at v : Term) (h : Meets a b (shapes.Stores room) (Stores room at v)) → takes_stores room ≡ Ok 0 → Completes b z
       → (s : State) (w : Words) → HasAt z.machine.code s.place h.seg
       → Holds z a.kept s w → (o q : Option Value) → value (spaces_of z.frame) z.machine.setting w at ≡ o → value (spaces_of z.frame) z.machine.setting
       w v ≡ q
@@ -200,10 +213,10 @@ module _ (keeping : IsKeeping) where
         inside : (c : Bool) → nat_lt i (z.machine.setting.extent room) ≡ c → Keeps (cond c (asked (event.Store room i x) (λ answer. w)) tree.wrong)
             → Answers z.machine (Holds z) (cond c (asked (event.Store room i x) (λ answer. w)) tree.wrong) h.seg b.kept s
         inside false d k = tt
-        inside true d k = met z a b (Stores room at v) h full s w here holds (event.Store room i x) (λ answer. w)
+        inside true d k = met z a b (shapes.Stores room) (Stores room at v) h full s w here holds (event.Store room i x) (λ answer. w)
             (i, x, e, f, is_less i (z.machine.setting.extent room) d, takes, refl, refl) k
 
-  pub lowers_store : (a b : Emission) (brk cont first : ℕ) (l t : Bool) (room : Room) (at v : Term) (h : Meets a b (Stores room at v))
+  pub lowers_store : (a b : Emission) (brk cont first : ℕ) (l t : Bool) (room : Room) (at v : Term) (h : Meets a b (shapes.Stores room) (Stores room at v))
       → takes_stores room ≡ Ok 0 → ArePlain h.seg → OfWords (term.Store room at v)
       → Lowers a b brk cont first l t (term.Store room at v)
   lowers_store a b brk cont first l t room at v h takes plain of = leaf a b brk cont first l t (term.Store room at v) h.seg refl refl refl h.grows
@@ -216,8 +229,9 @@ module _ (keeping : IsKeeping) where
             (value (spaces_of z.frame) z.machine.setting w v) refl refl
             (keeps_words z a b (term.Store room at v) w full of holds.words),
       ))
+      h.shows
 
-  does_atomic : (z : Site) (a b : Emission) (n : ℕ) (room : Room) (at : Term) (kind : Act) (c d : Term) (h : Meets a b (Atomics n room at kind c d))
+  does_atomic : (z : Site) (a b : Emission) (n : ℕ) (room : Room) (at : Term) (kind : Act) (c d : Term) (h : Meets a b (shapes.Changes room kind) (Atomics n room at kind c d))
       → Completes b z → (s : State) (w : Words)
       → HasAt z.machine.code s.place h.seg → Holds z a.kept s w → (o p q : Option Value) → value (spaces_of z.frame) z.machine.setting w at ≡ o
       → value (spaces_of z.frame) z.machine.setting w c ≡ p → value (spaces_of z.frame) z.machine.setting w d ≡ q
@@ -239,12 +253,12 @@ module _ (keeping : IsKeeping) where
             (cond r (asked (event.Atomic room i kind x (tree.second_operand kind y)) (λ answer. tree.with_scratch w n answer)) tree.wrong) h.seg
             b.kept s
         inside false u k = tt
-        inside true u k = met z a b (Atomics n room at kind c d) h full s w here holds (event.Atomic room i kind x (tree.second_operand kind y))
+        inside true u k = met z a b (shapes.Changes room kind) (Atomics n room at kind c d) h full s w here holds (event.Atomic room i kind x (tree.second_operand kind y))
             (λ answer. tree.with_scratch w n answer)
             (i, x, y, e, f, g, is_less i (z.machine.setting.extent room) u, refl, refl) k
 
   pub lowers_atomic : (a b : Emission) (brk cont first : ℕ) (l t : Bool) (n : ℕ) (room : Room) (at : Term) (kind : Act) (c d : Term)
-      (h : Meets a b (Atomics n room at kind c d)) → ArePlain h.seg
+      (h : Meets a b (shapes.Changes room kind) (Atomics n room at kind c d)) → ArePlain h.seg
       → OfWords (term.Atomic n room at kind c d) → Lowers a b brk cont first l t (term.Atomic n room at kind c d)
   lowers_atomic a b brk cont first l t n room at kind c d h plain of = leaf a b brk cont first l t (term.Atomic n room at kind c d) h.seg refl refl
       refl h.grows plain h.known
@@ -257,9 +271,10 @@ module _ (keeping : IsKeeping) where
             (value (spaces_of z.frame) z.machine.setting w d) refl refl refl
             (keeps_words z a b (term.Atomic n room at kind c d) w full of holds.words),
       ))
+      h.shows
 
   pub lowers_sync : (a b : Emission) (brk cont first : ℕ) (l t : Bool) (threads : Bool) (scope : Scope) (classes : Classes)
-      (h : Meets a b (Syncs threads scope classes)) → ArePlain h.seg
+      (h : Meets a b (cond threads shapes.Waits shapes.Fences) (Syncs threads scope classes)) → ArePlain h.seg
       → Lowers a b brk cont first l t (term.Sync threads scope classes)
   lowers_sync a b brk cont first l t threads scope classes h plain = leaf a b brk cont first l t (term.Sync threads scope classes) h.seg refl refl
       refl h.grows plain h.known
@@ -267,6 +282,7 @@ module _ (keeping : IsKeeping) where
         h.seg,
         refl,
         λ s w here holds.
-            met z a b (Syncs threads scope classes) h full s w here holds (tree.sync threads scope classes) (λ answer. w) (refl, refl)
+            met z a b (cond threads shapes.Waits shapes.Fences) (Syncs threads scope classes) h full s w here holds (tree.sync threads scope classes) (λ answer. w) (refl, refl)
             (keeps_words z a b (term.Sync threads scope classes) w full refl holds.words),
       ))
+      h.shows

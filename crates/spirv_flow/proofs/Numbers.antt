@@ -13,10 +13,10 @@ use Rattle.spirv_flow.specs.Lowers.{times}
 use Rattle.spirv_flow.proofs.Members.{first_holds, second_holds, no_truth}
 
 -- how often an id is in a list, and how often a label stands in code
-abbrev is_one : ℕ → ℕ → ℕ
+abbrev pub is_one : ℕ → ℕ → ℕ
 is_one x l = cond (nat_eq x l) 1 0
 
-abbrev hit : ℕ → Flow → ℕ
+abbrev pub hit : ℕ → Flow → ℕ
 hit l (Label k) = is_one k l
 hit l f = 0
 
@@ -159,7 +159,7 @@ label_defined l OpSwitch os = let e = no_switch l os in omega (arith, e)
 label_defined l OpReturn os = omega arith
 label_defined l OpUnreachable os = omega arith
 
-hit_defined : (l : ℕ) (o : Option Op) (os : List ℕ) → hit l (flow_of_op o os) ≤ times l (ids_in (parts_of o) os).results
+pub hit_defined : (l : ℕ) (o : Option Op) (os : List ℕ) → hit l (flow_of_op o os) ≤ times l (ids_in (parts_of o) os).results
 hit_defined l None os = omega arith
 hit_defined l (Some op) os = label_defined l op os
 

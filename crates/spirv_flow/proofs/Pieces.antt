@@ -9,6 +9,7 @@ use Rattle.shader_tree.specs.Values.{Words, truth, word}
 use Rattle.shader_tree.specs.Values as tree
 use Rattle.spirv_words.specs.Definitions.{results}
 use Rattle.spirv_words.specs.Text.{Instr}
+use Rattle.spirv_words.specs.Globals.{Places}
 use Rattle.spirv_words.specs.Lane.{State, step}
 use Rattle.spirv_symbols.specs.declared.entry.Entry.{Entry}
 use Rattle.spirv_symbols.specs.declared.symbol.TypeSymbol.{TypeSymbol}
@@ -17,11 +18,14 @@ use Rattle.spirv_emit.specs.Emission.{next_of, spaces_of}
 use Rattle.spirv_emit.specs.declared.emitter.Emitter.{Emitter as Emission}
 use Rattle.spirv_emit.specs.Growing.{Grows, Completes}
 use Rattle.spirv_emit.specs.Lanes.{Site, HasAt, Stands}
+use Rattle.spirv_emit.specs.Linked.{IsLinked, StandsIn}
+use Rattle.spirv_emit.specs.ModuleShape.{shape_of}
 use Rattle.spirv_emit.specs.Values.{Slot, slot, Meaning, Gives, Emitted, Flushed, as_value, got_of, valued, nothing, type_of_term}
 use Rattle.spirv_flow.specs.Layout.{ArePlain}
 use Rattle.spirv_flow.specs.Lowers.{Holds, IsClean, Written, times, AtMost}
 use Rattle.spirv_flow.specs.Pieces as pieces
 use Rattle.spirv_flow.proofs.Composing.{in_right, behind_append, IsGrowth, written_on}
+use Rattle.spirv_flow.proofs.Shapes.{in_front, behind as behind_code, quiet_both}
 use Rattle.spirv_flow.proofs.Steps.{has_front, has_back}
 use Rattle.spirv_flow.proofs.Walks.{goes_on}
 use Rattle.spirv_flow.proofs.Defined.{results_are_values}
@@ -51,6 +55,7 @@ piece_once a b seg g plain id =
 pub record Piece (old new : Emission) (code : List Instr) : Type 0 where
   pub plain : ArePlain code
   pub written : Written old new code
+  pub quiet : (z : Site) (places : Places) → Completes new z → IsLinked z places → StandsIn z code → shape_of z.machine.code places code ≡ []
 
 pub gives_piece : (a b : Emission) (rs : List Slot) (f : Meaning) (g : Gives a b [] rs f) → ArePlain g.seg → Piece a b g.seg
 gives_piece a b rs f g plain = record {
@@ -59,6 +64,7 @@ gives_piece a b rs f g plain = record {
     grows = g.grows;
     known = λ z w globals known cg ck kept. let k = g.known z w globals known ck kept tt in record { typed = k.typed; kept = k.kept };
   };
+  quiet = λ z places w linked here. (g.quiet z places w linked here tt).none;
 }
 
 -- the id of a value is known behind a piece, and stays known behind straight code
@@ -100,7 +106,14 @@ standing z code table s w here h = record { here = here; mirrors = h.mirrors; wo
 module _ (growth : IsGrowth) where
   -- TWO PIECES, one behind the other.
   pub both_pieces : (a b c : Emission) (x y : List Instr) → Piece a b x → Piece b c y → Piece a c (x ++ y)
-  both_pieces a b c x y g h = record { plain = plain_both x y g.plain h.plain; written = written_on growth a b c x y g.written h.written } where
+  both_pieces a b c x y g h = record {
+    plain = plain_both x y g.plain h.plain;
+    written = written_on growth a b c x y g.written h.written;
+    quiet = λ z places w linked here.
+        quiet_both z.machine.code places x y
+        (g.quiet z places (growth.back b c y z h.written.grows w) linked (in_front z x y here))
+        (h.quiet z places w linked (behind_code z x y here));
+  } where
     plain_both : (x y : List Instr) → ArePlain x → ArePlain y → ArePlain (x ++ y)
     plain_both [] y p q = q
     plain_both (i ∷ x) y p q = (p.0, plain_both x y p.1 q)

@@ -1,6 +1,12 @@
 pub mod Counted
+pub mod Emitting
+pub mod Formed
 pub mod Fronts
+pub mod Heads
+pub mod Labels
 pub mod Layout
 pub mod Lowering
 pub mod Lowers
+pub mod Marks
 pub mod Pieces
+pub mod Shapes

@@ -1,21 +1,29 @@
 -- The blocks of a statement were added to a module whose function is written.
-use Rattle.std.specs.Prelude.{◌≡◌, ℕ, ◌+◌, ◌<◌, ◌≤◌, ◌⊎◌, nat_eq, if◌then◌else◌, Bool, List, [], ◌∷◌, ◌++◌, Option, Some, None}
+use Rattle.std.specs.Prelude.{◌≡◌, ℕ, ◌+◌, ◌<◌, ◌≤◌, ◌⊎◌, nat_eq, if◌then◌else◌, Bool, List, [], ◌∷◌, ◌++◌, map, Option, Some, None}
 use Rattle.kept_values.specs.Tables.{Table, dirty_in, IsEmpty}
 use Rattle.shader_tree.specs.Holding.{HoldWords}
+use Rattle.shader_tree.specs.Shape.{shape}
 use Rattle.shader_tree.specs.Terms.{Term}
 use Rattle.shader_tree.specs.Terms as term
 use Rattle.shader_tree.specs.Values.{Words}
 use Rattle.spirv_words.specs.Text.{Instr}
 use Rattle.spirv_words.specs.Definitions.{results}
+use Rattle.spirv_words.specs.Globals.{Places}
 use Rattle.spirv_words.specs.Lane.{State}
 use Rattle.spirv_symbols.specs.declared.entry.Entry.{Entry}
-use Rattle.spirv_emit.specs.Code.{Typed, AreTyped, Covers, CoversKept, behind}
+use Rattle.spirv_symbols.specs.declared.symbol.Symbol.{Symbol}
+use Rattle.spirv_symbols.specs.Tables.{Has}
+use Rattle.spirv_emit.specs.Code.{In, Typed, AreTyped, Covers, CoversKept, behind}
 use Rattle.spirv_emit.specs.Emission.{next_of, spaces_of}
 use Rattle.spirv_emit.specs.declared.emitter.Emitter.{Emitter as Emission}
 use Rattle.spirv_emit.specs.Growing.{Grows, Completes}
 use Rattle.spirv_emit.specs.Lanes.{Site, Mirrors}
+use Rattle.spirv_flow.specs.Labels.{labels_in}
+use Rattle.spirv_emit.specs.Linked.{IsLinked, StandsIn}
+use Rattle.spirv_emit.specs.ModuleShape.{Seen}
 use Rattle.spirv_flow.specs.Layout.{Layout, Case, cases, default, first_of, code_of, Placed}
 use Rattle.spirv_flow.specs.Lowering.{Lowered}
+use Rattle.spirv_flow.specs.Shapes.{shape_in}
 
 -- The module's lane has the words of the tree's by a table, and these are words.
 pub record Holds (z : Site) (table : Table) (s : State) (t : Words) : Type 0 where
@@ -73,6 +81,11 @@ abbrev pub AtMost : (id low high first count n : ℕ) → Type 0
 AtMost id low high first count n =
     (n ≡ 0) ⊎ ((n ≡ 1) × (((low ≤ id) × (id < high)) ⊎ ((first ≤ id) × (id < first + count))))
 
+-- An id was taken in between, for no symbol.
+abbrev pub IsTaken : Emission → Emission → ℕ → Type 0
+IsTaken old new id =
+    (next_of old ≤ id) × (id < next_of new) × ((s : Symbol) → Has new.symbols.entries s id → ⊥)
+
 -- Breaks lead to one label and continues to another; the first label of a case is that one.
 pub record Lowers (old new : Emission) (brk cont first : ℕ) (in_loop in_any : Bool) (x : Term) : Type 0 where
   pub layout : Layout
@@ -82,4 +95,8 @@ pub record Lowers (old new : Emission) (brk cont first : ℕ) (in_loop in_any : 
   pub written : Written old new (code_of layout brk cont)
   pub once : (id : ℕ) → AtMost id (next_of old) (next_of new) first (marks x)
       (times id (results (code_of layout brk cont)))
+  pub labels : (id : ℕ) → In (labels_in (code_of layout brk cont)) id
+      → IsTaken old new id ⊎ ((first ≤ id) × (id < first + marks x))
   pub law : (z : Site) → Completes new z → LoweredIn z x layout old.kept new.kept
+  pub shows : (z : Site) (places : Places) → Completes new z → IsLinked z places
+      → StandsIn z (code_of layout brk cont) → shape_in z.machine.code places layout ≡ map Seen (shape x)

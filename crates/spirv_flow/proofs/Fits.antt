@@ -1,0 +1,186 @@
+-- What a statement may hold: so may its parts, and so it may while code is added.
+use Rattle.std.proofs.Common.{◌≡◌, ℕ, List, [], ◌∷◌, ◌++◌, Option, Some, None, Bool, true, false, refl, sym, ap, ◌∙◌, subst}
+use Rattle.std.specs.Prelude.{◌&&◌, Ok, IsTrue}
+use Rattle.kept_values.specs.Tables.{limits_in}
+use Rattle.shader_tree.specs.declared.node.Space.{Space}
+use Rattle.shader_tree.specs.declared.node.Space.TheVariants as space
+use Rattle.shader_tree.specs.Holding.{is_long}
+use Rattle.shader_tree.specs.Terms.{Term}
+use Rattle.shader_tree.specs.Terms as term
+use Rattle.shader_tree.specs.Walks.{Each, holds_no, spaces_in, rooms_in, threads_in, changed_in}
+use Rattle.tpf_decode.specs.declared.argument.Kind.{Kind}
+use Rattle.word_base.specs.declared.event.Room.{Room}
+use Rattle.spirv_words.specs.Memory.{takes_stores}
+use Rattle.spirv_words.specs.Text.{Instr}
+use Rattle.spirv_symbols.specs.declared.symbol.Symbol.{Symbol}
+use Rattle.spirv_symbols.specs.declared.symbol.Symbol.TheVariants.{Memory, Input, Registers, Elements, ImmediateArray, Uniform, Push}
+use Rattle.binding_map.specs.declared.register.Place.{Place}
+use Rattle.binding_map.specs.declared.register.Place.TheVariants.{Bound, Push as InPush}
+use Rattle.spirv_emit.specs.declared.buffer.ConstantBuffer.{ConstantBuffer}
+use Rattle.spirv_emit.specs.Begun.{IsThere, IsBufferThere, IsSpaceThere, is_searched, IsPlaceThere, built_in_of}
+use Rattle.spirv_emit.specs.Emission.{buffer_of}
+use Rattle.spirv_emit.specs.declared.emitter.Emitter.{Emitter as Emission}
+use Rattle.spirv_emit.specs.declared.emitter.Frame.{Frame}
+use Rattle.spirv_emit.specs.Growing.{Grows}
+use Rattle.spirv_flow.specs.Emitting.{IsFit, is_unheld}
+
+-- LISTS AND TESTS.
+each_front : {X : Type 0} (P : X → Type 0) (xs ys : List X) → Each P (xs ++ ys) → Each P xs
+each_front P [] ys h = tt
+each_front P (x ∷ xs) ys h = (h.0, each_front P xs ys h.1)
+
+each_back : {X : Type 0} (P : X → Type 0) (xs ys : List X) → Each P (xs ++ ys) → Each P ys
+each_back P [] ys h = h
+each_back P (x ∷ xs) ys h = each_back P xs ys h.1
+
+pub each_by : {X : Type 0} (P Q : X → Type 0) (xs : List X) → ((x : X) → P x → Q x) → Each P xs → Each Q xs
+each_by P Q [] f h = tt
+each_by P Q (x ∷ xs) f h = (f x h.0, each_by P Q xs f h.1)
+
+pub and_left : (b c : Bool) → IsTrue (b && c) → IsTrue b
+and_left true c h = refl
+and_left false c h = absurd (cc h)
+
+pub and_right : (b c : Bool) → IsTrue (b && c) → IsTrue c
+and_right true c h = h
+and_right false c h = absurd (cc h)
+
+-- WHAT THE WALK GATHERS, in parts.
+abbrev room_there : Emission → Room → Type 0
+room_there e room = IsThere e.symbols.entries (Memory room)
+
+abbrev thread_there : Emission → Kind → Type 0
+thread_there e k = IsThere e.symbols.entries (Input (built_in_of k))
+
+abbrev takes : Room → Type 0
+takes room = takes_stores room ≡ Ok 0
+
+record Facts (e : Emission) (spaces : List Space) (rooms : List Room) (threads : List Kind) (direct held : Bool) (changed : List Room)
+    (short : Bool) : Type 0 where
+  pub spaces' : Each (IsSpaceThere e) spaces
+  pub rooms' : Each (room_there e) rooms
+  pub threads' : Each (thread_there e) threads
+  pub direct' : e.frame.separate ≡ true → IsTrue direct
+  pub held' : IsTrue held
+  pub changed' : Each takes changed
+  pub short' : IsTrue short
+
+abbrev FactsOf : Emission → Term → Type 0
+FactsOf e x = Facts e (spaces_in x) (rooms_in x) (threads_in x) (holds_no is_searched x) (holds_no (is_unheld (limits_in e.kept)) x) (changed_in x)
+    (holds_no is_long x)
+
+facts : (e : Emission) (x : Term) → IsFit e x → FactsOf e x
+facts e x h = record {
+  spaces' = h.names.spaces;
+  rooms' = h.names.rooms;
+  threads' = h.names.threads;
+  direct' = h.names.direct;
+  held' = h.held;
+  changed' = h.changed;
+  short' = h.literals;
+}
+
+fit : (e : Emission) (x : Term) → FactsOf e x → IsFit e x
+fit e x h = record {
+  names = record { spaces = h.spaces'; rooms = h.rooms'; threads = h.threads'; direct = h.direct' };
+  held = h.held';
+  changed = h.changed';
+  literals = h.short';
+}
+
+front : (e : Emission) (s s' : List Space) (r r' : List Room) (t t' : List Kind) (d d' h h' : Bool) (c c' : List Room) (w w' : Bool)
+    → Facts e (s ++ s') (r ++ r') (t ++ t') (d && d') (h && h') (c ++ c') (w && w') → Facts e s r t d h c w
+front e s s' r r' t t' d d' h h' c c' w w' f = record {
+  spaces' = each_front (IsSpaceThere e) s s' f.spaces';
+  rooms' = each_front (room_there e) r r' f.rooms';
+  threads' = each_front (thread_there e) t t' f.threads';
+  direct' = λ q. and_left d d' (f.direct' q);
+  held' = and_left h h' f.held';
+  changed' = each_front takes c c' f.changed';
+  short' = and_left w w' f.short';
+}
+
+back : (e : Emission) (s s' : List Space) (r r' : List Room) (t t' : List Kind) (d d' h h' : Bool) (c c' : List Room) (w w' : Bool)
+    → Facts e (s ++ s') (r ++ r') (t ++ t') (d && d') (h && h') (c ++ c') (w && w') → Facts e s' r' t' d' h' c' w'
+back e s s' r r' t t' d d' h h' c c' w w' f = record {
+  spaces' = each_back (IsSpaceThere e) s s' f.spaces';
+  rooms' = each_back (room_there e) r r' f.rooms';
+  threads' = each_back (thread_there e) t t' f.threads';
+  direct' = λ q. and_right d d' (f.direct' q);
+  held' = and_right h h' f.held';
+  changed' = each_back takes c c' f.changed';
+  short' = and_right w w' f.short';
+}
+
+module _ (e : Emission) where
+  -- two parts, one behind the other
+  both : (a b : Term) → Facts e (spaces_in a ++ spaces_in b) (rooms_in a ++ rooms_in b) (threads_in a ++ threads_in b)
+      (holds_no is_searched a && holds_no is_searched b)
+      (holds_no (is_unheld (limits_in e.kept)) a && holds_no (is_unheld (limits_in e.kept)) b)
+      (changed_in a ++ changed_in b) (holds_no is_long a && holds_no is_long b) → IsFit e a × IsFit e b
+  both a b f =
+      let u = limits_in e.kept in (
+        fit e a (front e (spaces_in a) (spaces_in b) (rooms_in a) (rooms_in b) (threads_in a) (threads_in b) (holds_no is_searched a)
+            (holds_no is_searched b) (holds_no (is_unheld u) a) (holds_no (is_unheld u) b) (changed_in a) (changed_in b) (holds_no is_long a)
+            (holds_no is_long b) f),
+        fit e b (back e (spaces_in a) (spaces_in b) (rooms_in a) (rooms_in b) (threads_in a) (threads_in b) (holds_no is_searched a)
+            (holds_no is_searched b) (holds_no (is_unheld u) a) (holds_no (is_unheld u) b) (changed_in a) (changed_in b) (holds_no is_long a)
+            (holds_no is_long b) f),
+      )
+
+  pub guard_fit : (b x : Term) → IsFit e (term.Guard b x) → IsFit e b × IsFit e x
+  guard_fit b x h = both b x (facts e (term.Guard b x) h)
+
+  pub then_fit : (a b : Term) → IsFit e (term.Then a b) → IsFit e a × IsFit e b
+  then_fit a b h = both a b (facts e (term.Then a b) h)
+
+  pub switch_fit : (on x : Term) → IsFit e (term.Switch on x) → IsFit e on × IsFit e x
+  switch_fit on x h = both on x (facts e (term.Switch on x) h)
+
+  pub loop_fit : (x : Term) → IsFit e (term.Loop x) → IsFit e x
+  loop_fit x h = fit e x (facts e (term.Loop x) h)
+
+  pub case_fit : (v : ℕ) (x : Term) → IsFit e (term.Case v x) → IsFit e x
+  case_fit v x h = fit e x (facts e (term.Case v x) h)
+
+  pub default_fit : (x : Term) → IsFit e (term.Default x) → IsFit e x
+  default_fit x h = fit e x (facts e (term.Default x) h)
+
+  -- a choice is its truth in front of what the two statements are together
+  pub choice_fit : (b x y : Term) → IsFit e (term.If b x y) → IsFit e b × (IsFit e x × IsFit e y)
+  choice_fit b x y h =
+      let q = both b (term.Then x y) (facts e (term.If b x y) h) in (q.0, then_fit x y q.1)
+
+-- WHILE CODE IS ADDED.
+module _ (a b : Emission) (seg : List Instr) (g : Grows a b seg) where
+  there_stays : (s : Symbol) → IsThere a.symbols.entries s → IsThere b.symbols.entries s
+  there_stays s h = (h.0, g.has s h.0 h.1)
+
+  place_stays : (slot : ℕ) (place : Place) → IsPlaceThere a.symbols.entries slot place → IsPlaceThere b.symbols.entries slot place
+  place_stays slot (Bound set binding) h = there_stays (Uniform slot) h
+  place_stays slot (InPush first count) h = λ lt. there_stays Push (h lt)
+
+  buffer_stays : (x : Option ConstantBuffer) → IsBufferThere a.symbols.entries x → IsBufferThere b.symbols.entries x
+  buffer_stays None h = h
+  buffer_stays (Some x) h = place_stays x.slot x.place h
+
+  space_stays : (s : Space) → IsSpaceThere a s → IsSpaceThere b s
+  space_stays space.Temps h = λ q. there_stays Registers (h (ap (λ f. f.separate) (sym g.same.frame) ∙ q))
+  space_stays (space.Indexable slot) h = there_stays (Elements slot) h
+  space_stays (space.Constant slot) h =
+      subst (λ (f : Frame). IsBufferThere b.symbols.entries (buffer_of f.buffers.list slot)) (sym g.same.frame)
+      (buffer_stays (buffer_of a.frame.buffers.list slot) h)
+  space_stays space.ImmediateConstant h = there_stays ImmediateArray h
+
+  pub fit_stays : (x : Term) → IsFit a x → IsFit b x
+  fit_stays x h = record {
+    names = record {
+      spaces = each_by (IsSpaceThere a) (IsSpaceThere b) (spaces_in x) space_stays h.names.spaces;
+      rooms = each_by (room_there a) (room_there b) (rooms_in x) (λ r. there_stays (Memory r)) h.names.rooms;
+      threads = each_by (thread_there a) (thread_there b) (threads_in x) (λ k. there_stays (Input (built_in_of k))) h.names.threads;
+      direct = λ q. h.names.direct (ap (λ f. f.separate) (sym g.same.frame) ∙ q);
+    };
+    held = subst (λ u. IsTrue (holds_no (is_unheld u) x)) (sym g.same.limits) h.held;
+    changed = h.changed;
+    literals = h.literals;
+  }

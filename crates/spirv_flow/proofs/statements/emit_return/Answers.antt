@@ -1,0 +1,12 @@
+use Rattle.spirv_flow.proofs.Emits.{growth_of, return_did}
+use Rattle.spirv_flow.proofs.statements.emit_return.Goals as goal
+
+pub returns : goal.returns
+returns c =
+    let e = c.emit_laws.ensures in
+    let laws = growth_of e.on e.back e.takes e.takes_row in
+    let o = c.open_away-away in
+    return_did laws c.args.emitter.now o.new.emitter c.leave.new.self c.close_away.new.emitter c.args.around c.args.mark
+    o.result.next o.result.merge c.requires o.ensures.opens o.ensures.words o.ensures.ids c.leave.ensures.ends
+    c.leave.ensures.words c.leave.ensures.ids c.close_away.ensures.closes c.close_away.ensures.begun c.close_away.ensures.words
+    c.close_away.ensures.ids
