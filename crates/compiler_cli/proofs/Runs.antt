@@ -8,8 +8,8 @@ use Rattle.word_base.specs.declared.rule.Rule.TheVariants.{M1}
 use Rattle.word_base.specs.Rules.{refusal, comes_before, IsFirst, IsSound}
 use Rattle.outside.specs.Causes.{Rose}
 use Rattle.outside.specs.Told.{File, Output, Told, IsMissing, KeepsOutputs}
-use Rattle.translator.specs.Input.{IsBroken}
-use Rattle.translator.specs.Means.{Means}
+use Rattle.straight_lines.specs.Input.{IsBroken}
+use Rattle.straight_lines.specs.Means.{Means}
 use Rattle.word_base.specs.Words.{bytes_of}
 use Rattle.compiler_cli.specs.declared.failure.Failure.{Failure}
 use Rattle.compiler_cli.specs.declared.failure.Failure.TheVariants as failure

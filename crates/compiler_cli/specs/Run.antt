@@ -7,8 +7,8 @@ use Rattle.word_base.specs.Rules.{refusal, IsFirst, IsSound}
 use Rattle.word_base.specs.Words.{bytes_of}
 use Rattle.outside.specs.Causes.{Rose, Gained, GainedPart}
 use Rattle.outside.specs.Told.{Told, File, Output, file_of, IsMissing}
-use Rattle.translator.specs.Input.{IsBroken}
-use Rattle.translator.specs.Means.{Means}
+use Rattle.straight_lines.specs.Input.{IsBroken}
+use Rattle.straight_lines.specs.Means.{Means}
 use Rattle.compiler_cli.specs.declared.failure.Failure.{Failure}
 use Rattle.compiler_cli.specs.declared.failure.Failure.TheVariants as failure
 use Rattle.compiler_cli.specs.declared.failure.Status.{Status}

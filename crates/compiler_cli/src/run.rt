@@ -12,7 +12,7 @@ use crate::report::{report, report_usage};
 use crate::streams::{Stop, read_file, write_words, write_words_to_desk};
 use outside::{Desk, Failed, Sink, Words, outside_laws};
 use std::alloc::Global;
-use translator::translate;
+use straight_lines::translate;
 use word_base::{Halt, Refusal, Rule};
 
 /// The most bytes that an input may have.

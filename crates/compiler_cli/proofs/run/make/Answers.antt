@@ -1,7 +1,7 @@
 use Rattle.std.proofs.Common.{ℕ, List, [], arith, subst}
 use Rattle.word_base.specs.Rules.{IsFirst, IsSound}
-use Rattle.translator.specs.Input.{IsBroken}
-use Rattle.translator.specs.Means.{Means}
+use Rattle.straight_lines.specs.Input.{IsBroken}
+use Rattle.straight_lines.specs.Means.{Means}
 use Rattle.compiler_cli.proofs.Runs.{too_large, meant, refused}
 use Rattle.compiler_cli.proofs.run.make.Goals as goal
 

@@ -1,0 +1,14 @@
+pub mod Stops
+pub mod Ends
+pub mod Follows
+pub mod Picks
+pub mod Computed
+pub mod Summed
+pub mod Buffered
+pub mod Nulled
+pub mod WordLaws
+pub mod SameLogs
+pub mod SameValues
+pub mod DispatchWords
+pub mod ProgramWords
+pub mod SameDispatches

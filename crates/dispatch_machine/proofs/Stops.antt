@@ -1,0 +1,40 @@
+-- A lane meets one stop.
+use Rattle.std.proofs.Common.{◌≡◌, ℕ, zero, suc, ◌+◌, ◌≤◌, refl, sym, ap, ◌∙◌, subst, arith}
+use Rattle.word_base.specs.Lanes.{Turn, Silent, Asks, Ends, Wrong, Goes, Meets}
+
+-- any turn but a silent step
+abbrev pub IsStop : {S : Type 0} → Turn S → Type 0
+IsStop (Silent to) = ⊥
+IsStop (Asks e f) = Unit {0}
+IsStop Ends = Unit {0}
+IsStop (Wrong place rule) = Unit {0}
+
+module _ {S : Type 0} (step : S → Turn S) where
+  -- behind a stop there are no steps
+  pub no_further : (n m : ℕ) (s t u : S) → Goes step n s t → Goes step m s u → IsStop (step u) → n ≤ m
+  no_further zero m s t u g h stop = omega arith
+  no_further (suc n) zero s t u g h stop = absurd (subst IsStop (ap step (sym h) ∙ g.1) stop)
+  no_further (suc n) (suc m) s t u g h stop =
+      let e : h.0 ≡ g.0 = cc in
+      let k = no_further n m g.0 t u g.2 (subst (λ x. Goes step m x u) e h.2) stop in
+      omega (arith, k)
+
+  -- the rest of a walk behind its first steps
+  pub rest_of : (n m : ℕ) (s t u : S) → n ≤ m → Goes step n s t → Goes step m s u → (r : ℕ) × (n + r ≡ m) × Goes step r t u
+  rest_of zero m s t u l g h = (m, omega arith, subst (λ x. Goes step m x u) g h)
+  rest_of (suc n) zero s t u l g h = absurd (omega arith)
+  rest_of (suc n) (suc m) s t u l g h =
+      let e : h.0 ≡ g.0 = cc in
+      let k = rest_of n m g.0 t u (omega arith) g.2 (subst (λ x. Goes step m x u) e h.2) in
+      (k.0, omega (arith, k.1), k.2)
+
+  pub one_turn : (s : S) (x y : Turn S) → IsStop x → IsStop y → Meets step s x → Meets step s y → x ≡ y
+  one_turn s x y hx hy g h =
+      let gx = subst IsStop (sym g.1.2) hx in
+      let hy' = subst IsStop (sym h.1.2) hy in
+      let l = no_further g.0 h.0 s g.1.0 h.1.0 g.1.1 h.1.1 hy' in
+      let l' = no_further h.0 g.0 s h.1.0 g.1.0 h.1.1 g.1.1 gx in
+      let k = rest_of g.0 h.0 s g.1.0 h.1.0 l g.1.1 h.1.1 in
+      let none : k.0 ≡ 0 = omega (arith, l, l', k.1) in
+      let same : g.1.0 ≡ h.1.0 = subst (λ n. Goes step n g.1.0 h.1.0) none k.2 in
+      sym g.1.2 ∙ (ap step same ∙ h.1.2)

@@ -1,0 +1,9 @@
+pub mod Runs
+pub mod Dispatch
+pub mod SameRuns
+pub mod RunExamples
+pub mod RowExamples
+pub mod ModuleRunExamples
+pub mod BufferExamples
+pub mod NullExamples
+pub mod WrongExamples
