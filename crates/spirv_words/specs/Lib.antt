@@ -2,6 +2,7 @@ pub mod StorageClass
 pub mod Decoration
 pub mod BuiltIn
 pub mod Enumerants
+pub mod Versions
 pub mod Roles
 pub mod Operations
 pub mod Layouts

@@ -3,7 +3,7 @@
 -- its size with the words that its typed views grow to (8), the bindings (9), their completeness (10) and the dispatch (11).
 use Rattle.std.specs.Prelude.{◌≡◌, ℕ, nat_eq, nat_le, nat_lt, ◌&&◌, ◌||◌, if◌then◌else◌, Bool, true, false, List, [], ◌∷◌, Option, Some, None, refl, ⊤, ◌⊎◌}
 use Rattle.word_base.specs.declared.rule.Rule.{Rule}
-use Rattle.word_base.specs.declared.rule.Rule.TheVariants.{M1, C1, C2, C3, C4, C5, C6, C7, C8, C9, K1, K2, M2, M4, K3, K4, K5, K6, K7, K8, K9, K10, K11, K12, K13, K14, K15, L1, L2, L3, L4, L5, L6, L7, L8, S1, S2, S3, S4, S5, S6, S7, S8, S9, M3, U1, G1, G2, G3, G4, G5, G6, B1, B2, B3, X1, X2, X3, X4, X5}
+use Rattle.word_base.specs.declared.rule.Rule.TheVariants.{M1, C1, C2, C3, C4, C5, C6, C7, C8, C9, K1, K2, M2, M4, K3, K4, K5, K6, K7, K8, K9, K10, K11, K12, K13, K14, K15, L1, L2, L3, L4, L5, L6, L7, L8, S1, S2, S3, S4, S5, S6, S7, S8, S9, M3, G1, G2, G3, G4, G5, G6, B1, B2, B3, X1, X2, X3, X4, X5}
 use Rattle.word_base.specs.declared.rule.Refusal.{Refusal}
 use Rattle.word_base.specs.declared.rule.Halt.{Halt}
 use Rattle.word_base.specs.declared.rule.Halt.TheVariants.{Refused, NoMemory}
@@ -17,7 +17,7 @@ abbrev pub tested : ℕ → ℕ → Order
 tested phase number = record { phase = phase; number = number }
 
 -- M1 stands before the container's rules, M2 before M4, G6 before the rules of root signatures, and M3 behind the rules of
--- structure. U1 stands in the place of the phases that are not built yet.
+-- structure.
 abbrev pub order_of : Rule → Order
 order_of M1 = tested 2 0
 order_of C1 = tested 2 1
@@ -64,7 +64,6 @@ order_of S7 = tested 7 7
 order_of S8 = tested 7 8
 order_of S9 = tested 7 9
 order_of M3 = tested 7 10
-order_of U1 = tested 6 0
 order_of G1 = tested 9 1
 order_of G2 = tested 9 2
 order_of G3 = tested 9 3

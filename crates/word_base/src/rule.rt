@@ -100,8 +100,6 @@ pub enum Rule {
     S9,
     /// Broken where 65 constructs stand in one another.
     M3,
-    /// Broken where the input has a form that is not built yet.
-    U1,
     /// Broken where the root signature's version is neither 1 nor 2.
     G1,
     /// Broken where a word of the root signature is missing.
