@@ -24,16 +24,16 @@ fn written(
     tree: &mut Tree,
     program: &Program,
     meaning: Meaning,
-    operands: Operands,
+    operands: &Operands,
     c: u8,
 ) -> Component
-    requires operands { AreOperands tree.old.nodes (spaces_of program.now.shader) operands }
+    requires operands { AreOperands tree.old.nodes (spaces_of program.now.shader) operands.now }
     requires few { AreFew (spaces_of program.now.shader) }
     requires component { c < 4 }
-    requires room { length tree.old.nodes + part_nodes meaning operands c ≤ tree.old.capacity }
-    ensures grows { Grows tree.old tree.new (part_nodes meaning operands c) }
+    requires room { length tree.old.nodes + part_nodes meaning operands.now c ≤ tree.old.capacity }
+    ensures grows { Grows tree.old tree.new (part_nodes meaning operands.now c) }
     ensures component { IsComponent tree.new.nodes meaning
-        (spaces_of program.now.shader) operands.instruction c result }
+        (spaces_of program.now.shader) operands.now.instruction c result }
 {
     growing_laws();
     operand_laws();
@@ -56,16 +56,16 @@ fn component(
     tree: &mut Tree,
     program: &Program,
     meaning: Meaning,
-    operands: Operands,
+    operands: &Operands,
     c: u8,
 ) -> Component
-    requires operands { AreOperands tree.old.nodes (spaces_of program.now.shader) operands }
+    requires operands { AreOperands tree.old.nodes (spaces_of program.now.shader) operands.now }
     requires few { AreFew (spaces_of program.now.shader) }
     requires component { c < 4 }
-    requires room { length tree.old.nodes + part_nodes meaning operands c ≤ tree.old.capacity }
-    ensures grows { Grows tree.old tree.new (part_nodes meaning operands c) }
+    requires room { length tree.old.nodes + part_nodes meaning operands.now c ≤ tree.old.capacity }
+    ensures grows { Grows tree.old tree.new (part_nodes meaning operands.now c) }
     ensures component { IsComponent tree.new.nodes meaning
-        (spaces_of program.now.shader) operands.instruction c result }
+        (spaces_of program.now.shader) operands.now.instruction c result }
 {
     if writes_first(meaning, operands, c) || writes_second(meaning, operands, c) {
         return written(tree, program, meaning, operands, c);
@@ -93,12 +93,12 @@ fn behind_two(tree: &mut Tree, front: Option<u32>, a: Option<u32>, b: Option<u32
 }
 
 /// A statement and those of four components behind it.
-fn behind_four(tree: &mut Tree, front: Option<u32>, four: Four) -> Option<u32>
+fn behind_four(tree: &mut Tree, front: Option<u32>, four: &Four) -> Option<u32>
     requires front { IsStep tree.old.nodes front (step_of tree.old.nodes front) }
-    requires four { HasFour tree.old.nodes four }
+    requires four { HasFour tree.old.nodes four.now }
     requires room { length tree.old.nodes + 4 ≤ tree.old.capacity }
     ensures grows { Grows tree.old tree.new 4 }
-    ensures makes { IsStep tree.new.nodes result (fours tree.old.nodes four (step_of tree.old.nodes front)) }
+    ensures makes { IsStep tree.new.nodes result (fours tree.old.nodes four.now (step_of tree.old.nodes front)) }
     ensures none { result ≡ None → (front ≡ None) × (length tree.new.nodes ≡ length tree.old.nodes) }
 {
     growing_laws();
@@ -107,18 +107,18 @@ fn behind_four(tree: &mut Tree, front: Option<u32>, four: Four) -> Option<u32>
 }
 
 /// A statement, those of four components behind it, and four more.
-fn behind_eight(tree: &mut Tree, front: Option<u32>, now: Four, next: Four) -> Option<u32>
+fn behind_eight(tree: &mut Tree, front: Option<u32>, four: &Four, next: &Four) -> Option<u32>
     requires front { IsStep tree.old.nodes front (step_of tree.old.nodes front) }
-    requires now { HasFour tree.old.nodes now }
-    requires next { HasFour tree.old.nodes next }
+    requires four { HasFour tree.old.nodes four.now }
+    requires next { HasFour tree.old.nodes next.now }
     requires room { length tree.old.nodes + 8 ≤ tree.old.capacity }
     ensures grows { Grows tree.old tree.new 8 }
-    ensures makes { let nodes = tree.old.nodes in IsStep tree.new.nodes result (fours nodes next (fours nodes now
-        (step_of nodes front))) }
+    ensures makes { let nodes = tree.old.nodes in IsStep tree.new.nodes result (fours nodes next.now
+        (fours nodes four.now (step_of nodes front))) }
     ensures none { result ≡ None → (front ≡ None) × (length tree.new.nodes ≡ length tree.old.nodes) }
 {
     growing_laws();
-    let front = behind_four(tree, front, now);
+    let front = behind_four(tree, front, four);
     behind_four(tree, front, next)
 }
 
@@ -127,19 +127,19 @@ fn two_components(
     tree: &mut Tree,
     program: &Program,
     meaning: Meaning,
-    operands: Operands,
+    operands: &Operands,
     c: u8,
     d: u8,
 ) -> (Component, Component)
-    requires operands { AreOperands tree.old.nodes (spaces_of program.now.shader) operands }
+    requires operands { AreOperands tree.old.nodes (spaces_of program.now.shader) operands.now }
     requires few { AreFew (spaces_of program.now.shader) }
     requires c { c < 4 }
     requires d { d < 4 }
     requires room { length tree.old.nodes +
-        (part_nodes meaning operands c + part_nodes meaning operands d) ≤ tree.old.capacity }
-    ensures grows { Grows tree.old tree.new (part_nodes meaning operands c + part_nodes meaning operands d) }
-    ensures c { IsComponent tree.new.nodes meaning (spaces_of program.now.shader) operands.instruction c result.0 }
-    ensures d { IsComponent tree.new.nodes meaning (spaces_of program.now.shader) operands.instruction d result.1 }
+        (part_nodes meaning operands.now c + part_nodes meaning operands.now d) ≤ tree.old.capacity }
+    ensures grows { Grows tree.old tree.new (part_nodes meaning operands.now c + part_nodes meaning operands.now d) }
+    ensures c { IsComponent tree.new.nodes meaning (spaces_of program.now.shader) operands.now.instruction c result.0 }
+    ensures d { IsComponent tree.new.nodes meaning (spaces_of program.now.shader) operands.now.instruction d result.1 }
 {
     growing_laws();
     operand_laws();
@@ -153,14 +153,14 @@ fn components(
     tree: &mut Tree,
     program: &Program,
     meaning: Meaning,
-    operands: Operands,
+    operands: &Operands,
 ) -> Components
-    requires operands { AreOperands tree.old.nodes (spaces_of program.now.shader) operands }
+    requires operands { AreOperands tree.old.nodes (spaces_of program.now.shader) operands.now }
     requires few { AreFew (spaces_of program.now.shader) }
-    requires room { length tree.old.nodes + parts_nodes meaning operands ≤ tree.old.capacity }
-    ensures grows { Grows tree.old tree.new (parts_nodes meaning operands) }
+    requires room { length tree.old.nodes + parts_nodes meaning operands.now ≤ tree.old.capacity }
+    ensures grows { Grows tree.old tree.new (parts_nodes meaning operands.now) }
     ensures components { AreComponents tree.new.nodes meaning
-        (spaces_of program.now.shader) operands.instruction result }
+        (spaces_of program.now.shader) operands.now.instruction result }
 {
     growing_laws();
     operand_laws();
@@ -203,34 +203,34 @@ fn chain(
     tree: &mut Tree,
     meaning: Meaning,
     front: Option<u32>,
-    components: Components,
+    components: &Components,
 ) -> Option<u32>
     requires front { IsStep tree.old.nodes front (step_of tree.old.nodes front) }
-    requires steps { HaveSteps tree.old.nodes components }
+    requires steps { HaveSteps tree.old.nodes components.now }
     requires room { length tree.old.nodes + chain_nodes meaning ≤ tree.old.capacity }
     ensures grows { Grows tree.old tree.new (chain_nodes meaning) }
-    ensures makes { let nodes = tree.old.nodes in IsStep tree.new.nodes result (all_of nodes meaning components
+    ensures makes { let nodes = tree.old.nodes in IsStep tree.new.nodes result (all_of nodes meaning components.now
         (step_of nodes front)) }
     ensures none { result ≡ None → length tree.new.nodes ≡ length tree.old.nodes }
 {
     growing_laws();
     let c = components;
     if is_double(meaning) {
-        let now = behind_eight(tree, front, c.first_now, c.second_now);
-        behind_eight(tree, now, c.first_behind, c.second_behind)
+        let now = behind_eight(tree, front, &c.first_now, &c.second_now);
+        behind_eight(tree, now, &c.first_behind, &c.second_behind)
     } else {
-        behind_eight(tree, front, c.first_now, c.first_behind)
+        behind_eight(tree, front, &c.first_now, &c.first_behind)
     }
 }
 
 /// The statement of an id, or one that does nothing.
-fn statement(tree: &mut Tree, meaning: Meaning, front: Option<u32>, components: Components) -> u32
+fn statement(tree: &mut Tree, meaning: Meaning, front: Option<u32>, components: &Components) -> u32
     requires front { IsStep tree.old.nodes front (step_of tree.old.nodes front) }
-    requires steps { HaveSteps tree.old.nodes components }
+    requires steps { HaveSteps tree.old.nodes components.now }
     requires room { length tree.old.nodes + chain_nodes meaning ≤ tree.old.capacity }
     ensures grows { Grows tree.old tree.new (chain_nodes meaning) }
     ensures makes { let nodes = tree.old.nodes in IsNode tree.new.nodes AStatement result
-        (all_of nodes meaning components (step_of nodes front)) }
+        (all_of nodes meaning components.now (step_of nodes front)) }
 {
     match chain(tree, meaning, front, components) {
         Some(id) => id,
@@ -252,9 +252,9 @@ fn raised(tree: &mut Tree, program: &Program, meaning: Meaning, instruction: Ins
         (spaces_of program.now.shader) instruction) }
 {
     growing_laws();
-    let (operands, front) = begin(tree, program, instruction);
-    let components = components(tree, program, meaning, operands);
-    statement(tree, meaning, front, components)
+    let begun = begin(tree, program, instruction);
+    let components = components(tree, program, meaning, &begun.0);
+    statement(tree, meaning, begun.1, &components)
 }
 
 /// The statement of an instruction that computes.

@@ -20,9 +20,9 @@ pub(crate) const NONE: Steps = Steps {
 };
 
 /// Whether a source reads, for the component `d`, what may be the component `c` of a vector.
-fn is_read(operand: Operand, to: Vector, c: u8, d: u8) -> bool
+fn is_read(operand: &Operand, to: Vector, c: u8, d: u8) -> bool
     requires { d < 4 }
-    ensures { result ≡ is_read (seen to) c d operand }
+    ensures { result ≡ is_read (seen to) c d operand.now }
 {
     meets(
         to,
@@ -33,26 +33,26 @@ fn is_read(operand: Operand, to: Vector, c: u8, d: u8) -> bool
 }
 
 /// Whether one of the sources does.
-fn are_read(meaning: Meaning, operands: Operands, to: Vector, c: u8, d: u8) -> bool
+fn are_read(meaning: Meaning, operands: &Operands, to: Vector, c: u8, d: u8) -> bool
     requires { d < 4 }
-    ensures { result ≡ are_read meaning operands (seen to) c d }
+    ensures { result ≡ are_read meaning operands.now (seen to) c d }
 {
     let o = operands;
     match meaning {
-        Meaning::One(_) => is_read(o.o1, to, c, d),
-        Meaning::Two(_) => is_read(o.o1, to, c, d) || is_read(o.o2, to, c, d),
+        Meaning::One(_) => is_read(&o.o1, to, c, d),
+        Meaning::Two(_) => is_read(&o.o1, to, c, d) || is_read(&o.o2, to, c, d),
         Meaning::Three(_) => {
-            is_read(o.o1, to, c, d) || is_read(o.o2, to, c, d) || is_read(o.o3, to, c, d)
+            is_read(&o.o1, to, c, d) || is_read(&o.o2, to, c, d) || is_read(&o.o3, to, c, d)
         }
         Meaning::Inserts => {
-            is_read(o.o1, to, c, d)
-                || is_read(o.o2, to, c, d)
-                || is_read(o.o3, to, c, d)
-                || is_read(o.o4, to, c, d)
+            is_read(&o.o1, to, c, d)
+                || is_read(&o.o2, to, c, d)
+                || is_read(&o.o3, to, c, d)
+                || is_read(&o.o4, to, c, d)
         }
-        Meaning::Pair(_) => is_read(o.o2, to, c, d) || is_read(o.o3, to, c, d),
+        Meaning::Pair(_) => is_read(&o.o2, to, c, d) || is_read(&o.o3, to, c, d),
         Meaning::Swaps => {
-            is_read(o.o2, to, c, d) || is_read(o.o3, to, c, d) || is_read(o.o4, to, c, d)
+            is_read(&o.o2, to, c, d) || is_read(&o.o3, to, c, d) || is_read(&o.o4, to, c, d)
         }
         _ => false,
     }
@@ -79,33 +79,33 @@ fn is_single(meaning: Meaning) -> bool
 }
 
 /// Whether an instruction writes a component of its first destination.
-pub(crate) fn writes_first(meaning: Meaning, operands: Operands, c: u8) -> bool
+pub(crate) fn writes_first(meaning: Meaning, operands: &Operands, c: u8) -> bool
     requires { c < 4 }
-    ensures { result ≡ writes_first meaning operands.instruction c }
+    ensures { result ≡ writes_first meaning operands.now.instruction c }
 {
     (is_single(meaning) || is_double(meaning)) && is_written(&operands.instruction.o0, c)
 }
 
 /// Whether an instruction writes a component of its second destination.
-pub(crate) fn writes_second(meaning: Meaning, operands: Operands, c: u8) -> bool
+pub(crate) fn writes_second(meaning: Meaning, operands: &Operands, c: u8) -> bool
     requires { c < 4 }
-    ensures { result ≡ writes_second meaning operands.instruction c }
+    ensures { result ≡ writes_second meaning operands.now.instruction c }
 {
     is_double(meaning) && is_written(&operands.instruction.o1, c)
 }
 
 /// Whether a component of the first destination is read for the component `d` of what is written later.
-fn first_reads(meaning: Meaning, operands: Operands, c: u8, d: u8) -> bool
+fn first_reads(meaning: Meaning, operands: &Operands, c: u8, d: u8) -> bool
     requires { d < 4 }
-    ensures { result ≡ first_reads meaning operands c d }
+    ensures { result ≡ first_reads meaning operands.now c d }
 {
     (c < d && writes_first(meaning, operands, d) || writes_second(meaning, operands, d))
         && are_read(meaning, operands, target(operands.o0), c, d)
 }
 
 /// Whether a component of the first destination is read by what is written later.
-fn first_is_read(meaning: Meaning, operands: Operands, c: u8) -> bool
-    ensures { result ≡ first_is_read meaning operands c }
+fn first_is_read(meaning: Meaning, operands: &Operands, c: u8) -> bool
+    ensures { result ≡ first_is_read meaning operands.now c }
 {
     first_reads(meaning, operands, c, 0)
         || first_reads(meaning, operands, c, 1)
@@ -114,9 +114,9 @@ fn first_is_read(meaning: Meaning, operands: Operands, c: u8) -> bool
 }
 
 /// Whether a component of the second destination is read for a later one, `d`.
-fn second_reads(meaning: Meaning, operands: Operands, c: u8, d: u8) -> bool
+fn second_reads(meaning: Meaning, operands: &Operands, c: u8, d: u8) -> bool
     requires { d < 4 }
-    ensures { result ≡ second_reads meaning operands c d }
+    ensures { result ≡ second_reads meaning operands.now c d }
 {
     c < d
         && writes_second(meaning, operands, d)
@@ -124,8 +124,8 @@ fn second_reads(meaning: Meaning, operands: Operands, c: u8, d: u8) -> bool
 }
 
 /// Whether a component of the second destination is read for a later one.
-fn second_is_read(meaning: Meaning, operands: Operands, c: u8) -> bool
-    ensures { result ≡ second_is_read meaning operands c }
+fn second_is_read(meaning: Meaning, operands: &Operands, c: u8) -> bool
+    ensures { result ≡ second_is_read meaning operands.now c }
 {
     second_reads(meaning, operands, c, 0)
         || second_reads(meaning, operands, c, 1)
@@ -134,9 +134,9 @@ fn second_is_read(meaning: Meaning, operands: Operands, c: u8) -> bool
 }
 
 /// Whether a component of the second destination may be that of the first, which waits.
-fn stands_behind(meaning: Meaning, operands: Operands, c: u8) -> bool
+fn stands_behind(meaning: Meaning, operands: &Operands, c: u8) -> bool
     requires { c < 4 }
-    ensures { result ≡ stands_behind meaning operands c }
+    ensures { result ≡ stands_behind meaning operands.now c }
 {
     in_mask(operands.instruction.o0.select, c)
         && first_is_read(meaning, operands, c)
@@ -144,25 +144,26 @@ fn stands_behind(meaning: Meaning, operands: Operands, c: u8) -> bool
 }
 
 /// Whether a component of the second destination waits.
-fn second_is_late(meaning: Meaning, operands: Operands, c: u8) -> bool
+fn second_is_late(meaning: Meaning, operands: &Operands, c: u8) -> bool
     requires { c < 4 }
-    ensures { result ≡ second_is_late meaning operands c }
+    ensures { result ≡ second_is_late meaning operands.now c }
 {
     second_is_read(meaning, operands, c) || stands_behind(meaning, operands, c)
 }
 
 /// What is done for a component of a destination that is written: nothing where it names no register.
-fn turn(tree: &mut Tree, operand: Operand, c: u8, value: u32, scratch: u32, waits: bool) -> Steps
-    requires place { CanWrite tree.old.nodes (known_target operand) operand.place.number operand.place.kept }
+fn turn(tree: &mut Tree, operand: &Operand, c: u8, value: u32, scratch: u32, waits: bool) -> Steps
+    requires place { CanWrite tree.old.nodes
+        (known_target operand.now) operand.now.place.number operand.now.place.kept }
     requires value { IsTrue (has tree.old.nodes (a_word value)) }
     requires component { c < 4 }
-    requires outside { seen (known_target operand) ≡ Outside → waits ≡ false }
-    requires room { length tree.old.nodes + turn_nodes (known_target operand) c ≤ tree.old.capacity }
-    ensures grows { Grows tree.old tree.new (turn_nodes (known_target operand) c) }
-    ensures now { IsStep tree.new.nodes result.now (now_of tree.old.nodes operand c value scratch waits) }
-    ensures behind { IsStep tree.new.nodes result.behind (behind_of tree.old.nodes operand c scratch waits) }
+    requires outside { seen (known_target operand.now) ≡ Outside → waits ≡ false }
+    requires room { length tree.old.nodes + turn_nodes (known_target operand.now) c ≤ tree.old.capacity }
+    ensures grows { Grows tree.old tree.new (turn_nodes (known_target operand.now) c) }
+    ensures now { IsStep tree.new.nodes result.now (now_of tree.old.nodes operand.now c value scratch waits) }
+    ensures behind { IsStep tree.new.nodes result.behind (behind_of tree.old.nodes operand.now c scratch waits) }
 {
-    let vector = target(operand);
+    let vector = target(*operand);
     if let Vector::Outside = vector {
         return NONE;
     }
@@ -178,50 +179,58 @@ fn turn(tree: &mut Tree, operand: Operand, c: u8, value: u32, scratch: u32, wait
 pub(crate) fn first_turn(
     tree: &mut Tree,
     meaning: Meaning,
-    operands: Operands,
+    operands: &Operands,
     c: u8,
     value: u32,
 ) -> Steps
     requires place { CanWrite tree.old.nodes
-        (known_target operands.o0) operands.o0.place.number operands.o0.place.kept }
+        (known_target operands.now.o0) operands.now.o0.place.number operands.now.o0.place.kept }
     requires value { IsTrue (has tree.old.nodes (a_word value)) }
     requires component { c < 4 }
-    requires room { length tree.old.nodes + turn_nodes (known_target operands.o0) c ≤ tree.old.capacity }
-    ensures grows { Grows tree.old tree.new (turn_nodes (known_target operands.o0) c) }
-    ensures now { let now = now_of tree.old.nodes operands.o0 c value (10 + c) (first_is_read meaning operands c) in
-        IsStep tree.new.nodes result.now (if writes_first meaning operands.instruction c then now else Nothing) }
-    ensures behind { let behind = behind_of tree.old.nodes operands.o0 c (10 + c) (first_is_read meaning operands c) in
-        IsStep tree.new.nodes result.behind (if writes_first meaning operands.instruction c then behind else Nothing) }
+    requires room { length tree.old.nodes + turn_nodes (known_target operands.now.o0) c ≤ tree.old.capacity }
+    ensures grows { Grows tree.old tree.new (turn_nodes (known_target operands.now.o0) c) }
+    ensures now { let now = now_of tree.old.nodes operands.now.o0 c value
+        (10 + c) (first_is_read meaning operands.now c) in
+        IsStep tree.new.nodes result.now
+        (if writes_first meaning operands.now.instruction c then now else Nothing) }
+    ensures behind { let behind = behind_of tree.old.nodes operands.now.o0 c
+        (10 + c) (first_is_read meaning operands.now c) in
+        IsStep tree.new.nodes result.behind
+        (if writes_first meaning operands.now.instruction c then behind else Nothing) }
 {
     if !writes_first(meaning, operands, c) {
         return NONE;
     }
     let waits = first_is_read(meaning, operands, c);
-    turn(tree, operands.o0, c, value, 10 + u32::from(c), waits)
+    turn(tree, &operands.o0, c, value, 10 + u32::from(c), waits)
 }
 
 /// What is done for a component of the second destination.
 pub(crate) fn second_turn(
     tree: &mut Tree,
     meaning: Meaning,
-    operands: Operands,
+    operands: &Operands,
     c: u8,
     value: u32,
 ) -> Steps
     requires place { CanWrite tree.old.nodes
-        (known_target operands.o1) operands.o1.place.number operands.o1.place.kept }
+        (known_target operands.now.o1) operands.now.o1.place.number operands.now.o1.place.kept }
     requires value { IsTrue (has tree.old.nodes (a_word value)) }
     requires component { c < 4 }
-    requires room { length tree.old.nodes + turn_nodes (known_target operands.o1) c ≤ tree.old.capacity }
-    ensures grows { Grows tree.old tree.new (turn_nodes (known_target operands.o1) c) }
-    ensures now { let now = now_of tree.old.nodes operands.o1 c value (14 + c) (second_is_late meaning operands c) in
-        IsStep tree.new.nodes result.now (if writes_second meaning operands.instruction c then now else Nothing) }
-    ensures behind { let behind = behind_of tree.old.nodes operands.o1 c (14 + c) (second_is_late meaning operands c) in
-        IsStep tree.new.nodes result.behind (if writes_second meaning operands.instruction c then behind else Nothing) }
+    requires room { length tree.old.nodes + turn_nodes (known_target operands.now.o1) c ≤ tree.old.capacity }
+    ensures grows { Grows tree.old tree.new (turn_nodes (known_target operands.now.o1) c) }
+    ensures now { let now = now_of tree.old.nodes operands.now.o1 c value
+        (14 + c) (second_is_late meaning operands.now c) in
+        IsStep tree.new.nodes result.now
+        (if writes_second meaning operands.now.instruction c then now else Nothing) }
+    ensures behind { let behind = behind_of tree.old.nodes operands.now.o1 c
+        (14 + c) (second_is_late meaning operands.now c) in
+        IsStep tree.new.nodes result.behind
+        (if writes_second meaning operands.now.instruction c then behind else Nothing) }
 {
     if !writes_second(meaning, operands, c) {
         return NONE;
     }
     let waits = second_is_late(meaning, operands, c);
-    turn(tree, operands.o1, c, value, 14 + u32::from(c), waits)
+    turn(tree, &operands.o1, c, value, 14 + u32::from(c), waits)
 }

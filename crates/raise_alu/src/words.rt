@@ -20,25 +20,26 @@ use word_base::{Binary, Paired, Ternary, Unary};
 fn two_sources(
     tree: &mut Tree,
     program: &Program,
-    a: Operand,
-    b: Operand,
+    a: &Operand,
+    b: &Operand,
     component: u8,
 ) -> (Value, Value)
-    requires a { IsOperand tree.old.nodes (spaces_of program.now.shader) a }
-    requires b { IsOperand tree.old.nodes (spaces_of program.now.shader) b }
+    requires a { IsOperand tree.old.nodes (spaces_of program.now.shader) a.now }
+    requires b { IsOperand tree.old.nodes (spaces_of program.now.shader) b.now }
     requires few { AreFew (spaces_of program.now.shader) }
     requires component { component < 4 }
-    requires room { length tree.old.nodes + (source_nodes a.argument + source_nodes b.argument) ≤ tree.old.capacity }
-    ensures grows { Grows tree.old tree.new (source_nodes a.argument + source_nodes b.argument) }
+    requires room { length tree.old.nodes +
+        (source_nodes a.now.argument + source_nodes b.now.argument) ≤ tree.old.capacity }
+    ensures grows { Grows tree.old tree.new (source_nodes a.now.argument + source_nodes b.now.argument) }
     ensures a { StandsFor tree.new.nodes result.0 (source
-        (spaces_of program.now.shader) a.place.number a.argument component) }
+        (spaces_of program.now.shader) a.now.place.number a.now.argument component) }
     ensures b { StandsFor tree.new.nodes result.1 (source
-        (spaces_of program.now.shader) b.place.number b.argument component) }
+        (spaces_of program.now.shader) b.now.place.number b.now.argument component) }
 {
     growing_laws();
     operand_laws();
-    let first = source(tree, program, a, component);
-    let second = source(tree, program, b, component);
+    let first = source(tree, program, *a, component);
+    let second = source(tree, program, *b, component);
     (first, second)
 }
 
@@ -46,31 +47,31 @@ fn two_sources(
 fn three_sources(
     tree: &mut Tree,
     program: &Program,
-    a: Operand,
-    b: Operand,
-    c: Operand,
+    a: &Operand,
+    b: &Operand,
+    c: &Operand,
     component: u8,
 ) -> (Value, Value, Value)
-    requires a { IsOperand tree.old.nodes (spaces_of program.now.shader) a }
-    requires b { IsOperand tree.old.nodes (spaces_of program.now.shader) b }
-    requires c { IsOperand tree.old.nodes (spaces_of program.now.shader) c }
+    requires a { IsOperand tree.old.nodes (spaces_of program.now.shader) a.now }
+    requires b { IsOperand tree.old.nodes (spaces_of program.now.shader) b.now }
+    requires c { IsOperand tree.old.nodes (spaces_of program.now.shader) c.now }
     requires few { AreFew (spaces_of program.now.shader) }
     requires component { component < 4 }
     requires room { length tree.old.nodes +
-        (source_nodes a.argument + source_nodes b.argument + source_nodes c.argument) ≤ tree.old.capacity }
+        (source_nodes a.now.argument + source_nodes b.now.argument + source_nodes c.now.argument) ≤ tree.old.capacity }
     ensures grows { Grows tree.old tree.new
-        (source_nodes a.argument + source_nodes b.argument + source_nodes c.argument) }
+        (source_nodes a.now.argument + source_nodes b.now.argument + source_nodes c.now.argument) }
     ensures a { StandsFor tree.new.nodes result.0 (source
-        (spaces_of program.now.shader) a.place.number a.argument component) }
+        (spaces_of program.now.shader) a.now.place.number a.now.argument component) }
     ensures b { StandsFor tree.new.nodes result.1 (source
-        (spaces_of program.now.shader) b.place.number b.argument component) }
+        (spaces_of program.now.shader) b.now.place.number b.now.argument component) }
     ensures c { StandsFor tree.new.nodes result.2 (source
-        (spaces_of program.now.shader) c.place.number c.argument component) }
+        (spaces_of program.now.shader) c.now.place.number c.now.argument component) }
 {
     growing_laws();
     operand_laws();
     let (first, second) = two_sources(tree, program, a, b, component);
-    let third = source(tree, program, c, component);
+    let third = source(tree, program, *c, component);
     (first, second, third)
 }
 
@@ -78,67 +79,76 @@ fn three_sources(
 fn four_sources(
     tree: &mut Tree,
     program: &Program,
-    a: Operand,
-    b: Operand,
-    c: Operand,
-    d: Operand,
+    a: &Operand,
+    b: &Operand,
+    c: &Operand,
+    d: &Operand,
     component: u8,
 ) -> (Value, Value, Value, Value)
-    requires a { IsOperand tree.old.nodes (spaces_of program.now.shader) a }
-    requires b { IsOperand tree.old.nodes (spaces_of program.now.shader) b }
-    requires c { IsOperand tree.old.nodes (spaces_of program.now.shader) c }
-    requires d { IsOperand tree.old.nodes (spaces_of program.now.shader) d }
+    requires a { IsOperand tree.old.nodes (spaces_of program.now.shader) a.now }
+    requires b { IsOperand tree.old.nodes (spaces_of program.now.shader) b.now }
+    requires c { IsOperand tree.old.nodes (spaces_of program.now.shader) c.now }
+    requires d { IsOperand tree.old.nodes (spaces_of program.now.shader) d.now }
     requires few { AreFew (spaces_of program.now.shader) }
     requires component { component < 4 }
     requires room { length tree.old.nodes +
-        (source_nodes a.argument + source_nodes b.argument + source_nodes c.argument + source_nodes d.argument)
+        (source_nodes a.now.argument + source_nodes b.now.argument + source_nodes c.now.argument +
+        source_nodes d.now.argument)
         ≤ tree.old.capacity }
     ensures grows { Grows tree.old tree.new
-        (source_nodes a.argument + source_nodes b.argument + source_nodes c.argument + source_nodes d.argument) }
+        (source_nodes a.now.argument + source_nodes b.now.argument + source_nodes c.now.argument +
+        source_nodes d.now.argument) }
     ensures a { StandsFor tree.new.nodes result.0 (source
-        (spaces_of program.now.shader) a.place.number a.argument component) }
+        (spaces_of program.now.shader) a.now.place.number a.now.argument component) }
     ensures b { StandsFor tree.new.nodes result.1 (source
-        (spaces_of program.now.shader) b.place.number b.argument component) }
+        (spaces_of program.now.shader) b.now.place.number b.now.argument component) }
     ensures c { StandsFor tree.new.nodes result.2 (source
-        (spaces_of program.now.shader) c.place.number c.argument component) }
+        (spaces_of program.now.shader) c.now.place.number c.now.argument component) }
     ensures d { StandsFor tree.new.nodes result.3 (source
-        (spaces_of program.now.shader) d.place.number d.argument component) }
+        (spaces_of program.now.shader) d.now.place.number d.now.argument component) }
 {
     growing_laws();
     operand_laws();
     let (first, second, third) = three_sources(tree, program, a, b, c, component);
-    let fourth = source(tree, program, d, component);
+    let fourth = source(tree, program, *d, component);
     (first, second, third, fourth)
 }
 
 /// The word of an operation on one source.
-fn one(tree: &mut Tree, program: &Program, op: Unary, a: Operand, component: u8) -> u32
-    requires a { IsOperand tree.old.nodes (spaces_of program.now.shader) a }
+fn one(tree: &mut Tree, program: &Program, op: Unary, a: &Operand, component: u8) -> u32
+    requires a { IsOperand tree.old.nodes (spaces_of program.now.shader) a.now }
     requires few { AreFew (spaces_of program.now.shader) }
     requires component { component < 4 }
-    requires room { length tree.old.nodes + (source_nodes a.argument + 2) ≤ tree.old.capacity }
-    ensures grows { Grows tree.old tree.new (source_nodes a.argument + 2) }
+    requires room { length tree.old.nodes + (source_nodes a.now.argument + 2) ≤ tree.old.capacity }
+    ensures grows { Grows tree.old tree.new (source_nodes a.now.argument + 2) }
     ensures makes { let word = λ (o : Operand). source
         (spaces_of program.now.shader) o.place.number o.argument component in
-        IsNode tree.new.nodes AWord result (unary_of op (word a)) }
+        IsNode tree.new.nodes AWord result (unary_of op (word a.now)) }
 {
-    let word = source(tree, program, a, component);
+    let word = source(tree, program, *a, component);
     let value = unary(tree, op, word);
     id_of(tree, value)
 }
 
 /// The word of an operation on two sources.
-fn two(tree: &mut Tree, program: &Program, op: Binary, a: Operand, b: Operand, component: u8) -> u32
-    requires a { IsOperand tree.old.nodes (spaces_of program.now.shader) a }
-    requires b { IsOperand tree.old.nodes (spaces_of program.now.shader) b }
+fn two(
+    tree: &mut Tree,
+    program: &Program,
+    op: Binary,
+    a: &Operand,
+    b: &Operand,
+    component: u8,
+) -> u32
+    requires a { IsOperand tree.old.nodes (spaces_of program.now.shader) a.now }
+    requires b { IsOperand tree.old.nodes (spaces_of program.now.shader) b.now }
     requires few { AreFew (spaces_of program.now.shader) }
     requires component { component < 4 }
     requires room { length tree.old.nodes +
-        (source_nodes a.argument + source_nodes b.argument + 3) ≤ tree.old.capacity }
-    ensures grows { Grows tree.old tree.new (source_nodes a.argument + source_nodes b.argument + 3) }
+        (source_nodes a.now.argument + source_nodes b.now.argument + 3) ≤ tree.old.capacity }
+    ensures grows { Grows tree.old tree.new (source_nodes a.now.argument + source_nodes b.now.argument + 3) }
     ensures makes { let word = λ (o : Operand). source
         (spaces_of program.now.shader) o.place.number o.argument component in
-        IsNode tree.new.nodes AWord result (binary_of op (word a) (word b)) }
+        IsNode tree.new.nodes AWord result (binary_of op (word a.now) (word b.now)) }
 {
     let (first, second) = two_sources(tree, program, a, b, component);
     binary(tree, op, first, second)
@@ -149,23 +159,24 @@ fn three(
     tree: &mut Tree,
     program: &Program,
     op: Ternary,
-    a: Operand,
-    b: Operand,
-    c: Operand,
+    a: &Operand,
+    b: &Operand,
+    c: &Operand,
     component: u8,
 ) -> u32
-    requires a { IsOperand tree.old.nodes (spaces_of program.now.shader) a }
-    requires b { IsOperand tree.old.nodes (spaces_of program.now.shader) b }
-    requires c { IsOperand tree.old.nodes (spaces_of program.now.shader) c }
+    requires a { IsOperand tree.old.nodes (spaces_of program.now.shader) a.now }
+    requires b { IsOperand tree.old.nodes (spaces_of program.now.shader) b.now }
+    requires c { IsOperand tree.old.nodes (spaces_of program.now.shader) c.now }
     requires few { AreFew (spaces_of program.now.shader) }
     requires component { component < 4 }
     requires room { length tree.old.nodes +
-        (source_nodes a.argument + source_nodes b.argument + source_nodes c.argument + 4) ≤ tree.old.capacity }
+        (source_nodes a.now.argument + source_nodes b.now.argument + source_nodes c.now.argument + 4)
+        ≤ tree.old.capacity }
     ensures grows { Grows tree.old tree.new
-        (source_nodes a.argument + source_nodes b.argument + source_nodes c.argument + 4) }
+        (source_nodes a.now.argument + source_nodes b.now.argument + source_nodes c.now.argument + 4) }
     ensures makes { let word = λ (o : Operand). source
         (spaces_of program.now.shader) o.place.number o.argument component in
-        IsNode tree.new.nodes AWord result (ternary_of op (word a) (word b) (word c)) }
+        IsNode tree.new.nodes AWord result (ternary_of op (word a.now) (word b.now) (word c.now)) }
 {
     growing_laws();
     let (first, second, third) = three_sources(tree, program, a, b, c, component);
@@ -176,26 +187,28 @@ fn three(
 fn inserts(
     tree: &mut Tree,
     program: &Program,
-    a: Operand,
-    b: Operand,
-    c: Operand,
-    d: Operand,
+    a: &Operand,
+    b: &Operand,
+    c: &Operand,
+    d: &Operand,
     component: u8,
 ) -> u32
-    requires a { IsOperand tree.old.nodes (spaces_of program.now.shader) a }
-    requires b { IsOperand tree.old.nodes (spaces_of program.now.shader) b }
-    requires c { IsOperand tree.old.nodes (spaces_of program.now.shader) c }
-    requires d { IsOperand tree.old.nodes (spaces_of program.now.shader) d }
+    requires a { IsOperand tree.old.nodes (spaces_of program.now.shader) a.now }
+    requires b { IsOperand tree.old.nodes (spaces_of program.now.shader) b.now }
+    requires c { IsOperand tree.old.nodes (spaces_of program.now.shader) c.now }
+    requires d { IsOperand tree.old.nodes (spaces_of program.now.shader) d.now }
     requires few { AreFew (spaces_of program.now.shader) }
     requires component { component < 4 }
     requires room { length tree.old.nodes +
-        (source_nodes a.argument + source_nodes b.argument + source_nodes c.argument + source_nodes d.argument + 5)
+        (source_nodes a.now.argument + source_nodes b.now.argument + source_nodes c.now.argument +
+        source_nodes d.now.argument + 5)
         ≤ tree.old.capacity }
     ensures grows { Grows tree.old tree.new
-        (source_nodes a.argument + source_nodes b.argument + source_nodes c.argument + source_nodes d.argument + 5) }
+        (source_nodes a.now.argument + source_nodes b.now.argument + source_nodes c.now.argument +
+        source_nodes d.now.argument + 5) }
     ensures makes { let word = λ (o : Operand). source
         (spaces_of program.now.shader) o.place.number o.argument component in
-        IsNode tree.new.nodes AWord result (insert_of (word a) (word b) (word c) (word d)) }
+        IsNode tree.new.nodes AWord result (insert_of (word a.now) (word b.now) (word c.now) (word d.now)) }
 {
     growing_laws();
     let (width, offset, inserted, base) = four_sources(tree, program, a, b, c, d, component);
@@ -207,23 +220,23 @@ fn paired(
     tree: &mut Tree,
     program: &Program,
     op: Paired,
-    a: Operand,
-    b: Operand,
+    a: &Operand,
+    b: &Operand,
     component: u8,
 ) -> (u32, u32)
-    requires a { IsOperand tree.old.nodes (spaces_of program.now.shader) a }
-    requires b { IsOperand tree.old.nodes (spaces_of program.now.shader) b }
+    requires a { IsOperand tree.old.nodes (spaces_of program.now.shader) a.now }
+    requires b { IsOperand tree.old.nodes (spaces_of program.now.shader) b.now }
     requires few { AreFew (spaces_of program.now.shader) }
     requires component { component < 4 }
     requires room { length tree.old.nodes +
-        (source_nodes a.argument + source_nodes b.argument + 4) ≤ tree.old.capacity }
-    ensures grows { Grows tree.old tree.new (source_nodes a.argument + source_nodes b.argument + 4) }
+        (source_nodes a.now.argument + source_nodes b.now.argument + 4) ≤ tree.old.capacity }
+    ensures grows { Grows tree.old tree.new (source_nodes a.now.argument + source_nodes b.now.argument + 4) }
     ensures first { let word = λ (o : Operand). source
         (spaces_of program.now.shader) o.place.number o.argument component in
-        IsNode tree.new.nodes AWord result.0 (first_of op (word a) (word b)) }
+        IsNode tree.new.nodes AWord result.0 (first_of op (word a.now) (word b.now)) }
     ensures second { let word = λ (o : Operand). source
         (spaces_of program.now.shader) o.place.number o.argument component in
-        IsNode tree.new.nodes AWord result.1 (second_of op (word a) (word b)) }
+        IsNode tree.new.nodes AWord result.1 (second_of op (word a.now) (word b.now)) }
 {
     let (first, second) = two_sources(tree, program, a, b, component);
     pair(tree, op, first, second)
@@ -233,26 +246,27 @@ fn paired(
 fn swaps(
     tree: &mut Tree,
     program: &Program,
-    on: Operand,
-    a: Operand,
-    b: Operand,
+    on: &Operand,
+    a: &Operand,
+    b: &Operand,
     component: u8,
 ) -> (u32, u32)
-    requires on { IsOperand tree.old.nodes (spaces_of program.now.shader) on }
-    requires a { IsOperand tree.old.nodes (spaces_of program.now.shader) a }
-    requires b { IsOperand tree.old.nodes (spaces_of program.now.shader) b }
+    requires on { IsOperand tree.old.nodes (spaces_of program.now.shader) on.now }
+    requires a { IsOperand tree.old.nodes (spaces_of program.now.shader) a.now }
+    requires b { IsOperand tree.old.nodes (spaces_of program.now.shader) b.now }
     requires few { AreFew (spaces_of program.now.shader) }
     requires component { component < 4 }
     requires room { length tree.old.nodes +
-        (source_nodes on.argument + source_nodes a.argument + source_nodes b.argument + 6) ≤ tree.old.capacity }
+        (source_nodes on.now.argument + source_nodes a.now.argument + source_nodes b.now.argument + 6)
+        ≤ tree.old.capacity }
     ensures grows { Grows tree.old tree.new
-        (source_nodes on.argument + source_nodes a.argument + source_nodes b.argument + 6) }
+        (source_nodes on.now.argument + source_nodes a.now.argument + source_nodes b.now.argument + 6) }
     ensures first { let word = λ (o : Operand). source
         (spaces_of program.now.shader) o.place.number o.argument component in
-        IsNode tree.new.nodes AWord result.0 (chosen (word on) (word a) (word b)) }
+        IsNode tree.new.nodes AWord result.0 (chosen (word on.now) (word a.now) (word b.now)) }
     ensures second { let word = λ (o : Operand). source
         (spaces_of program.now.shader) o.place.number o.argument component in
-        IsNode tree.new.nodes AWord result.1 (chosen (word on) (word b) (word a)) }
+        IsNode tree.new.nodes AWord result.1 (chosen (word on.now) (word b.now) (word a.now)) }
 {
     growing_laws();
     let (truth, first, second) = three_sources(tree, program, on, a, b, component);
@@ -265,35 +279,38 @@ pub(crate) fn words(
     tree: &mut Tree,
     program: &Program,
     meaning: Meaning,
-    operands: Operands,
+    operands: &Operands,
     component: u8,
 ) -> (u32, Option<u32>)
     requires few { AreFew (spaces_of program.now.shader) }
     requires component { component < 4 }
-    requires operands { AreOperands tree.old.nodes (spaces_of program.now.shader) operands }
+    requires operands { AreOperands tree.old.nodes (spaces_of program.now.shader) operands.now }
     requires room { length tree.old.nodes +
-        (sources_nodes meaning operands + operation_nodes meaning) ≤ tree.old.capacity }
-    ensures grows { Grows tree.old tree.new (sources_nodes meaning operands + operation_nodes meaning) }
+        (sources_nodes meaning operands.now + operation_nodes meaning) ≤ tree.old.capacity }
+    ensures grows { Grows tree.old tree.new (sources_nodes meaning operands.now + operation_nodes meaning) }
     ensures first { IsNode tree.new.nodes AWord result.0 (computed meaning
-        (spaces_of program.now.shader) operands.instruction component) }
+        (spaces_of program.now.shader) operands.now.instruction component) }
     ensures second { IsSecond tree.new.nodes meaning
-        (spaces_of program.now.shader) operands.instruction component result.1 }
+        (spaces_of program.now.shader) operands.now.instruction component result.1 }
 {
     let o = operands;
     match meaning {
-        Meaning::One(op) => (one(tree, program, op, o.o1, component), None),
-        Meaning::Two(op) => (two(tree, program, op, o.o1, o.o2, component), None),
-        Meaning::Three(op) => (three(tree, program, op, o.o1, o.o2, o.o3, component), None),
+        Meaning::One(op) => (one(tree, program, op, &o.o1, component), None),
+        Meaning::Two(op) => (two(tree, program, op, &o.o1, &o.o2, component), None),
+        Meaning::Three(op) => (
+            three(tree, program, op, &o.o1, &o.o2, &o.o3, component),
+            None,
+        ),
         Meaning::Inserts => (
-            inserts(tree, program, o.o1, o.o2, o.o3, o.o4, component),
+            inserts(tree, program, &o.o1, &o.o2, &o.o3, &o.o4, component),
             None,
         ),
         Meaning::Pair(op) => {
-            let (first, second) = paired(tree, program, op, o.o2, o.o3, component);
+            let (first, second) = paired(tree, program, op, &o.o2, &o.o3, component);
             (first, Some(second))
         }
         Meaning::Swaps => {
-            let (first, second) = swaps(tree, program, o.o2, o.o3, o.o4, component);
+            let (first, second) = swaps(tree, program, &o.o2, &o.o3, &o.o4, component);
             (first, Some(second))
         }
         _ => (expr(tree, Expr::Word(0)), None),
