@@ -33,6 +33,7 @@ impl Emitter {
         ensures kept { self.new.kept ≡ self.old.kept }
         ensures capacity { self.new.code.capacity ≡ self.old.code.capacity }
         ensures sorted { Sorts self.old.symbols.entries constants.new.list }
+        ensures spare { constants.new.capacity ≡ constants.old.capacity }
         ensures body { result ≡ length self.old.code.list + 1 }
         ensures within { result ≤ length self.new.code.list }
         ensures text { (body : List Instr) → self.old.code.list ≡ words_of_code body
