@@ -17,3 +17,5 @@ mod ListedOnce
 mod Paid
 mod SizedFrame
 mod Bound
+mod Worded
+mod Stepped

@@ -20,6 +20,10 @@ words_sum v d c l w i a b h = omega arith
 ids_sum : (v d c l w : ℕ) → v ≤ 2 * d + 1 → d + c + l + 2 ≤ w → 6 * (v + d) + c + 27 + 6 + 48 * l ≤ 48 * w + 4096
 ids_sum v d c l w a h = omega arith
 
+pub listed_few : (p : Shader) (tokens : List ℕ) → Spells Base p tokens
+    → (length p.declarations ≤ p.words) × (length p.constants ≤ p.words)
+listed_few p tokens s = let n = parts_few p tokens s in (omega (arith, n), omega (arith, n))
+
 pub words_enough : (p : Shader) (bindings : List Binding) (tokens : List ℕ) (version : ℕ) (entries : List Entry)
     → Spells Base p tokens → IsDeclared p → IsMap bindings → globals_in entries ≡ variables p bindings
     → declared_words p bindings + length (interface version entries) + 66 + 256 * sum_by (λ i. i.length) p.instructions ≤ 256 * p.words + 8192

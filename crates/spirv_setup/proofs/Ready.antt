@@ -9,11 +9,13 @@ use Rattle.tpf_program.specs.Declarations.{register_count}
 use Rattle.tpf_program.specs.Program.{Shader}
 use Rattle.tpf_program.specs.Sizes.{temps_declared, temps_of}
 use Rattle.binding_map.specs.Bindings.{Binding, IsMap}
+use Rattle.spirv_symbols.specs.declared.declared.Declared.{Declared as Said}
 use Rattle.spirv_symbols.specs.declared.symbol.Symbol.{Symbol}
 use Rattle.spirv_symbols.specs.declared.symbol.Symbol.TheVariants.{Elements}
 use Rattle.spirv_symbols.specs.Tables.{Table, Has, Extends}
 use Rattle.spirv_emit.specs.Begun.{IsBegun, IsUnsaid}
 use Rattle.spirv_emit.specs.Emission.{words_left, ids_left}
+use Rattle.spirv_emit.specs.declared.buffer.ConstantBuffer.{ConstantBuffer}
 use Rattle.spirv_emit.specs.declared.emitter.Emitter.{Emitter as Emission}
 use Rattle.spirv_emit.specs.Growing.{globals_in}
 use Rattle.spirv_setup.specs.Describing.{Describes, is_of}
@@ -194,3 +196,20 @@ said_sizes p bindings a s b t q e f x y =
         separate = false;
       };
     }) f
+
+-- THE ROOM for what is said stays as it was.
+module _ (a b c : Emission) (ds : List Said) (bs : List ConstantBuffer) (registers pushed : ℕ) (immediates : List ℕ) (d : Describes b c ds bs)
+    (e : b ≡ record a {
+      frame = record a.frame {
+        context = record a.frame.context { registers = registers; pushed = pushed; immediates = immediates };
+        separate = false;
+      };
+    }) where
+  pub declared_kept : c.frame.context.capacity ≡ a.frame.context.capacity
+  declared_kept = ap (λ (x : Emission). x.frame.context.capacity) d.rest ∙ ap (λ (x : Emission). x.frame.context.capacity) e
+
+  pub immediates_kept : c.frame.context.room ≡ a.frame.context.room
+  immediates_kept = ap (λ (x : Emission). x.frame.context.room) d.rest ∙ ap (λ (x : Emission). x.frame.context.room) e
+
+  pub buffers_kept : c.frame.buffers.capacity ≡ a.frame.buffers.capacity
+  buffers_kept = d.capacity ∙ ap (λ (x : Emission). x.frame.buffers.capacity) e

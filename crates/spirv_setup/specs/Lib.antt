@@ -1,6 +1,7 @@
 pub mod SharedSlots
 pub mod SharedPlaces
 pub mod Wanted
+pub mod WantedExamples
 pub mod Descriptions
 pub mod Variables
 pub mod Premises

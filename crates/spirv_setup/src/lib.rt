@@ -17,4 +17,4 @@ mod variables;
 pub use laws::setup_laws;
 pub use placing::placed_laws;
 pub use setup::begin;
-pub use sums::{size_laws, sum_laws};
+pub use sums::{declared_laws, size_laws, sum_laws};

@@ -27,6 +27,9 @@ fn describe(emitter: &mut Emitter, program: &Program, bindings: &Bindings) -> u3
     ensures rest { emitter.new ≡ record emitter.old { frame = emitter.new.frame } }
     ensures pushed { result ≡ push_words program.now.shader bindings.now }
     ensures map { IsMap bindings.now }
+    ensures declared { emitter.new.frame.context.capacity ≡ emitter.old.frame.context.capacity }
+    ensures immediates { emitter.new.frame.context.room ≡ emitter.old.frame.context.room }
+    ensures buffers { emitter.new.frame.buffers.capacity ≡ emitter.old.frame.buffers.capacity }
 {
     let pushed = push_words(program, bindings);
     emitter.set_sizes(4 * program.temps(), false, pushed);
@@ -55,6 +58,10 @@ pub fn begin(emitter: &mut Emitter, program: &Program, bindings: &Bindings, vers
     ensures words { emitter.old.code.capacity
         ≤ words_left emitter.new + declared_words program.now.shader bindings.now }
     ensures ids { emitter.old.symbols.limit ≤ ids_left emitter.new + declared_ids program.now.shader bindings.now }
+    ensures map { IsMap bindings.now }
+    ensures declared { emitter.new.frame.context.capacity ≡ emitter.old.frame.context.capacity }
+    ensures immediates { emitter.new.frame.context.room ≡ emitter.old.frame.context.room }
+    ensures buffers { emitter.new.frame.buffers.capacity ≡ emitter.old.frame.buffers.capacity }
 {
     growth_laws();
     let pushed = describe(emitter, program, bindings);

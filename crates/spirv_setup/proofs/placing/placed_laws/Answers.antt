@@ -1,4 +1,4 @@
-use Rattle.std.proofs.Common.{◌≡◌, ◌∙◌}
+use Rattle.std.proofs.Common.{◌∙◌}
 use Rattle.spirv_setup.proofs.Bound.{rooms_placed}
 use Rattle.spirv_setup.proofs.Owed.{named_there}
 use Rattle.spirv_setup.proofs.placing.placed_laws.Goals as goal

@@ -162,3 +162,39 @@ returns-clause-ids c =
     let code = ap (λ (e : Emission). e.code.capacity) c.describe-pushed.ensures.rest in
     let limit = ap (λ (e : Emission). e.symbols.limit) c.describe-pushed.ensures.rest in
     omega (arith, limit, all.ids, c.name_arrays.ensures.ids, c.name_constants.ensures.ids, c.start.ensures.ids)
+
+pub returns-clause-declared : goal.returns-clause-declared
+returns-clause-declared c =
+    let m = may_begin c.args.program.now.shader c.args.bindings.now c.args.emitter.now c.describe-pushed.new.emitter c.start.new.self c.describe-pushed.ensures.map c.requires.declared c.describe-pushed.ensures.rest c.start.ensures.begun
+    c.start.ensures.globals c.start.ensures.words c.start.ensures.ids c.requires.words c.requires.ids in
+    let push : NamesAll c.name_bound.new.emitter c.name_push.new.emitter (push_variables (push_words c.args.program.now.shader c.args.bindings.now)) =
+    subst (λ w. NamesAll c.name_bound.new.emitter c.name_push.new.emitter (push_variables w)) c.describe-pushed.ensures.pushed c.name_push.ensures in
+    let all = named_all c.args.program.now.shader c.args.bindings.now c.start.new.self m c.name_bound.new.emitter c.name_bound.ensures c.name_push.new.emitter push c.name_shared.new.emitter c.name_shared.ensures c.growth_laws.ensures.on c.name_threads.new.emitter
+    c.name_threads.ensures in
+    let said = described_on c.args.program.now.shader c.args.bindings.now c.describe-pushed.new.emitter c.start.new.self c.start.ensures.rest c.describe-pushed.ensures.described in
+    let rest = same_on c.args.program.now.shader c.args.bindings.now c.start.new.self c.name_threads.new.emitter c.name_arrays.new.emitter said c.start.ensures.globals all c.name_arrays.ensures c.name_constants.new.emitter c.name_constants.ensures in
+    ap (λ (e : Emission). e.frame.context.capacity) rest ∙ (ap (λ (e : Emission). e.frame.context.capacity) c.start.ensures.rest ∙ c.describe-pushed.ensures.declared)
+
+pub returns-clause-immediates : goal.returns-clause-immediates
+returns-clause-immediates c =
+    let m = may_begin c.args.program.now.shader c.args.bindings.now c.args.emitter.now c.describe-pushed.new.emitter c.start.new.self c.describe-pushed.ensures.map c.requires.declared c.describe-pushed.ensures.rest c.start.ensures.begun
+    c.start.ensures.globals c.start.ensures.words c.start.ensures.ids c.requires.words c.requires.ids in
+    let push : NamesAll c.name_bound.new.emitter c.name_push.new.emitter (push_variables (push_words c.args.program.now.shader c.args.bindings.now)) =
+    subst (λ w. NamesAll c.name_bound.new.emitter c.name_push.new.emitter (push_variables w)) c.describe-pushed.ensures.pushed c.name_push.ensures in
+    let all = named_all c.args.program.now.shader c.args.bindings.now c.start.new.self m c.name_bound.new.emitter c.name_bound.ensures c.name_push.new.emitter push c.name_shared.new.emitter c.name_shared.ensures c.growth_laws.ensures.on c.name_threads.new.emitter
+    c.name_threads.ensures in
+    let said = described_on c.args.program.now.shader c.args.bindings.now c.describe-pushed.new.emitter c.start.new.self c.start.ensures.rest c.describe-pushed.ensures.described in
+    let rest = same_on c.args.program.now.shader c.args.bindings.now c.start.new.self c.name_threads.new.emitter c.name_arrays.new.emitter said c.start.ensures.globals all c.name_arrays.ensures c.name_constants.new.emitter c.name_constants.ensures in
+    ap (λ (e : Emission). e.frame.context.room) rest ∙ (ap (λ (e : Emission). e.frame.context.room) c.start.ensures.rest ∙ c.describe-pushed.ensures.immediates)
+
+pub returns-clause-buffers : goal.returns-clause-buffers
+returns-clause-buffers c =
+    let m = may_begin c.args.program.now.shader c.args.bindings.now c.args.emitter.now c.describe-pushed.new.emitter c.start.new.self c.describe-pushed.ensures.map c.requires.declared c.describe-pushed.ensures.rest c.start.ensures.begun
+    c.start.ensures.globals c.start.ensures.words c.start.ensures.ids c.requires.words c.requires.ids in
+    let push : NamesAll c.name_bound.new.emitter c.name_push.new.emitter (push_variables (push_words c.args.program.now.shader c.args.bindings.now)) =
+    subst (λ w. NamesAll c.name_bound.new.emitter c.name_push.new.emitter (push_variables w)) c.describe-pushed.ensures.pushed c.name_push.ensures in
+    let all = named_all c.args.program.now.shader c.args.bindings.now c.start.new.self m c.name_bound.new.emitter c.name_bound.ensures c.name_push.new.emitter push c.name_shared.new.emitter c.name_shared.ensures c.growth_laws.ensures.on c.name_threads.new.emitter
+    c.name_threads.ensures in
+    let said = described_on c.args.program.now.shader c.args.bindings.now c.describe-pushed.new.emitter c.start.new.self c.start.ensures.rest c.describe-pushed.ensures.described in
+    let rest = same_on c.args.program.now.shader c.args.bindings.now c.start.new.self c.name_threads.new.emitter c.name_arrays.new.emitter said c.start.ensures.globals all c.name_arrays.ensures c.name_constants.new.emitter c.name_constants.ensures in
+    ap (λ (e : Emission). e.frame.buffers.capacity) rest ∙ (ap (λ (e : Emission). e.frame.buffers.capacity) c.start.ensures.rest ∙ c.describe-pushed.ensures.buffers)
