@@ -1,0 +1,21 @@
+pub mod clauses
+mod ShapeRefuted
+mod AccLong
+mod AccPhases
+mod AccRooms
+mod Answered
+mod ViewBytes
+mod Named
+mod Budget
+mod LowSteps
+mod Fitting
+mod LowLowered
+mod Finishing
+mod Ordering
+mod Forming
+mod Shaping
+mod FollowStarted
+mod Following
+mod Meaning
+mod RoomFor
+mod InputRules

@@ -1,0 +1,71 @@
+//! The tree of a program, and the module of the tree.
+ghost use Rattle.std.specs.Prelude.{◌≤◌, length};
+ghost use Rattle.word_base.specs.Words.{AreWords};
+ghost use Rattle.binding_map.specs.Bindings.{IsMap};
+ghost use Rattle.spirv_words.specs.Versions.{number_of_version};
+ghost use Rattle.spirv_emit.specs.Finished.{text_of};
+ghost use Rattle.translator.specs.Lowered.{CanBeLowered, HasRoomFor, KeepsRoom, Lowered};
+
+use binding_map::Bindings;
+use raise_program::{raise, raised_tree_laws, test_laws};
+use shader_tree::Tree;
+use spirv_emit::Emitter;
+use spirv_flow::emit_tree;
+use spirv_setup::{begin, declared_laws, placed_laws, setup_laws, sum_laws};
+use spirv_symbols::{Ascending, length_laws};
+use spirv_words::Version;
+use tpf_program::Program;
+
+/// That the words of a module are words, for the proof of a caller: each is read, and nothing comes of it.
+fn word_laws(emitter: &Emitter, body: u32)
+    requires within { body ≤ length emitter.now.code.list }
+    ensures { AreWords (text_of body emitter.now.code.list) }
+{
+    for i in 0..emitter.len() {
+        emitter.word(body, i);
+    }
+}
+
+/// That no two entries of a binding map meet, for the proof of a caller.
+fn map_laws(bindings: &Bindings)
+    ensures { IsMap bindings.now }
+{
+    bindings.len();
+}
+
+/// Writes the tree of a program, and its module, in place of what was there. The program breaks no rule, and there is
+/// room for it.
+///
+/// Returns how many words the function's code has with its end, by which the emitter finds the module's words.
+pub(crate) fn lower(
+    program: &Program,
+    bindings: &Bindings,
+    version: Version,
+    tree: &mut Tree,
+    emitter: &mut Emitter,
+    constants: &mut Ascending,
+) -> u32
+    requires program { CanBeLowered program.now.shader bindings.now }
+    requires room { HasRoomFor program.now.shader.words tree.old emitter.old constants.old }
+    ensures lowered { Lowered program.now.shader bindings.now (number_of_version version) tree.new emitter.new
+        constants.new.list result }
+    ensures room { KeepsRoom tree.old tree.new emitter.old emitter.new constants.old constants.new }
+    ensures short { length emitter.new.code.list ≤ emitter.new.code.capacity }
+{
+    declared_laws();
+    length_laws();
+    map_laws(bindings);
+    placed_laws();
+    raised_tree_laws();
+    setup_laws();
+    sum_laws();
+    test_laws();
+    tree.clear();
+    emitter.clear();
+    raise(tree, program, bindings);
+    let kind = begin(emitter, program, bindings, version.number());
+    emit_tree(emitter, tree);
+    let body = emitter.finish(kind, constants);
+    word_laws(emitter, body);
+    body
+}
