@@ -1,0 +1,5 @@
+pub mod Command
+pub mod Job
+pub mod Shown
+pub mod Usage
+pub mod JobExamples
