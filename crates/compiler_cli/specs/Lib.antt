@@ -1,6 +1,6 @@
 pub mod Printed
 pub mod Texts
-pub mod Job
-pub mod Command
 pub mod Streams
+pub mod Output
 pub mod Run
+pub mod Parts

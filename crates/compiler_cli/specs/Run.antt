@@ -2,18 +2,15 @@
 use Rattle.std.specs.Prelude.{◌≡◌, ℕ, ◌<◌, ◌≤◌, ◌⊎◌, true, List, [], ◌∷◌, ◌++◌, Option, Some, None, Result, Ok, Err, length, take}
 use Rattle.std.specs.Bool.{MatchBool}
 use Rattle.word_base.specs.declared.rule.Refusal.{Refusal}
-use Rattle.word_base.specs.declared.rule.Rule.TheVariants.{M1}
-use Rattle.word_base.specs.Rules.{refusal, IsFirst, IsSound}
-use Rattle.word_base.specs.Words.{bytes_of}
+use Rattle.word_base.specs.Rules.{IsFirst, IsSound}
 use Rattle.outside.specs.Causes.{Rose, Gained, GainedPart}
-use Rattle.outside.specs.Told.{Told, File, Output, file_of, IsMissing}
-use Rattle.straight_lines.specs.Input.{IsBroken}
-use Rattle.straight_lines.specs.Means.{Means}
+use Rattle.outside.specs.Told.{Told, File, Output}
 use Rattle.compiler_cli.specs.declared.failure.Failure.{Failure}
 use Rattle.compiler_cli.specs.declared.failure.Failure.TheVariants as failure
 use Rattle.compiler_cli.specs.declared.failure.Status.{Status}
 use Rattle.compiler_cli.specs.declared.failure.Status.TheVariants as status
-use Rattle.compiler_cli.specs.Job.{Job, job_of, is_stream}
+use Rattle.command_line.specs.Job.{Job, job_of, is_stream}
+use Rattle.compiler_cli.specs.Output.{AreTold, BreaksIn, IsOutput, LacksFile}
 use Rattle.compiler_cli.specs.Streams.{NothingLeft}
 use Rattle.compiler_cli.specs.Texts.{refusal_line, usage_line, fault_line, memory_line}
 
@@ -26,49 +23,16 @@ pub record Outside : Type 0 where
 abbrev pub outside : Told → Option (List ℕ) → ℕ → Outside
 outside desk out faults = record { desk = desk; out = out; faults = faults }
 
--- the desk tells its files, and these are the bytes of that one
-abbrev pub IsFile : Option (List File) → List ℕ → List ℕ → Type 0
-IsFile None name bytes = ⊥
-IsFile (Some files) name bytes = file_of files name ≡ Some bytes
+-- of the files of a job this is the first broken rule, where the desk tells them
+abbrev pub IsFirstIn : Job → Option (List File) → Refusal → Type 0
+IsFirstIn job files r = AreTold files → IsFirst (BreaksIn job files) r
 
--- a file has more bytes than an input may have
-pub record IsTooLarge (bytes : List ℕ) (r : Refusal) : Type 0 where
-  pub size : 16777216 < length bytes
-  pub rule : r ≡ refusal M1 16777216
-
--- a rule of the translation is broken, of a file that is not too large
-pub record IsUntranslated (bytes : List ℕ) (r : Refusal) : Type 0 where
-  pub size : length bytes ≤ 16777216
-  pub rule : IsBroken bytes r
-
--- the rules of a job with that input
-abbrev pub BreaksIn : List ℕ → Refusal → Type 0
-BreaksIn bytes r = IsTooLarge bytes r ⊎ IsUntranslated bytes r
-
--- The words mean what the input asks for, and no rule is broken: where the input is told.
-pub record IsMeant (files : Option (List File)) (name words : List ℕ) : Type 0 where
-  pub sound : (bytes : List ℕ) → IsFile files name bytes → IsSound (BreaksIn bytes)
-  pub means : (bytes : List ℕ) → IsFile files name bytes → Means bytes [] 0x00010300 words
-
--- This is the first broken rule of the input, where the input is told.
-abbrev pub IsFirstIn : Option (List File) → List ℕ → Refusal → Type 0
-IsFirstIn files name r = (bytes : List ℕ) → IsFile files name bytes → IsFirst (BreaksIn bytes) r
-
--- What making the words of a module leaves, and why it fails.
-pub record Makes (old new : Told) (name words : List ℕ) : Type 0 where
-  pub there : IsMissing old.files name → ⊥
-  pub meant : IsMeant old.files name words
-  pub left : NothingLeft new.left
-
-pub record IsRefusedBy (old new : Told) (name : List ℕ) (r : Refusal) : Type 0 where
-  pub there : IsMissing old.files name → ⊥
-  pub quiet : new.faults ≡ old.faults
-  pub first : IsFirstIn old.files name r
-
-abbrev pub FailsBy : Told → Told → List ℕ → Failure → Type 0
-FailsBy old new name (failure.Refused r) = IsRefusedBy old new name r
-FailsBy old new name failure.Fault = Rose old.faults new.faults ⊎ IsMissing old.files name
-FailsBy old new name failure.NoMemory = Unit {0}
+-- A JOB CAN BE DONE with these bytes: its files are there, no rule is broken, and the bytes are its whole output, where the
+-- desk tells its files.
+pub record HasOutput (job : Job) (files : Option (List File)) (bytes : List ℕ) : Type 0 where
+  pub there : LacksFile job files → ⊥
+  pub sound : IsSound (BreaksIn job files)
+  pub output : IsOutput job files bytes
 
 -- Nothing was written to an output, and none was begun.
 pub record Untouched (old new : Told) (out out' : Option (List ℕ)) : Type 0 where
@@ -107,33 +71,31 @@ DeliversBy name old new bytes (Ok u) = Delivers name old.desk new.desk old.out n
 DeliversBy name old new bytes (Err e) =
     DeliversPart name old.desk new.desk old.out new.out bytes × (Rose old.desk.faults new.desk.faults ⊎ Rose old.faults new.faults)
 
--- How a job ends. The bytes of a module that means the input were written to the output, and to nothing else.
+-- How a job ends. Its whole output was written, and nothing elsewhere.
 pub record Succeeds (job : Job) (old new : Outside) : Type 0 where
-  pub target : List ℕ
-  pub there : IsMissing old.desk.files job.input → ⊥
-  pub meant : IsMeant old.desk.files job.input target
+  pub output : List ℕ
+  pub made : HasOutput job old.desk.files output
   pub left : NothingLeft new.desk.left
-  pub written : Delivers job.output old.desk new.desk old.out new.out (bytes_of target)
+  pub written : Delivers job.output old.desk new.desk old.out new.out output
 
--- No fault was counted in reading, this is the first broken rule of the input, and nothing was written.
+-- No fault was counted in reading, this is the first broken rule of its files, and nothing was written.
 pub record Refuses (job : Job) (old new : Outside) (r : Refusal) : Type 0 where
-  pub there : IsMissing old.desk.files job.input → ⊥
+  pub there : LacksFile job old.desk.files → ⊥
   pub quiet : new.desk.faults ≡ old.desk.faults
-  pub first : IsFirstIn old.desk.files job.input r
+  pub first : IsFirstIn job old.desk.files r
   pub untouched : Untouched old.desk new.desk old.out new.out
 
--- The input could not be read, and nothing was written.
+-- A file could not be read, and nothing was written.
 pub record FaultsReading (job : Job) (old new : Outside) : Type 0 where
-  pub cause : Rose old.desk.faults new.desk.faults ⊎ IsMissing old.desk.files job.input
+  pub cause : Rose old.desk.faults new.desk.faults ⊎ LacksFile job old.desk.files
   pub untouched : Untouched old.desk new.desk old.out new.out
 
 -- The output could not be written whole.
 pub record FaultsWriting (job : Job) (old new : Outside) : Type 0 where
-  pub target : List ℕ
-  pub there : IsMissing old.desk.files job.input → ⊥
-  pub meant : IsMeant old.desk.files job.input target
+  pub output : List ℕ
+  pub made : HasOutput job old.desk.files output
   pub cause : Rose old.desk.faults new.desk.faults ⊎ Rose old.faults new.faults
-  pub written : DeliversPart job.output old.desk new.desk old.out new.out (bytes_of target)
+  pub written : DeliversPart job.output old.desk new.desk old.out new.out output
 
 abbrev pub Ends : Job → Outside → Outside → Result Unit Failure → Type 0
 Ends job old new (Ok u) = Succeeds job old new
@@ -179,18 +141,34 @@ Answers words old new err err' status.Refused = Answered words (RefusedBy old ne
 Answers words old new err err' status.Usage = (job_of words ≡ None) × Untouched old.desk new.desk old.out new.out × Reports err err' usage_line
 Answers words old new err err' status.Fault =
     Answered words (λ job. FaultsReading job old new ⊎ FaultsWriting job old new) × Reports err err' fault_line
-Answers words old new err err' status.NoMemory =
-    Answered words (λ job. Untouched old.desk new.desk old.out new.out) × Reports err err' memory_line
+Answers words old new err err' status.NoMemory = Untouched old.desk new.desk old.out new.out × Reports err err' memory_line
 
--- Where a rule of the input is broken, the run is refused, unless memory or the desk failed.
+-- Want of memory may come in place of any answer.
+abbrev pub IsOrWantsMemory : Status → Status → Type 0
+IsOrWantsMemory s result = (result ≡ s) ⊎ (result ≡ status.NoMemory)
+
+-- Where the words ask for nothing the answer is `Usage`, and it is `Usage` nowhere else.
+pub record IsUsage (words : List (List ℕ)) (result : Status) : Type 0 where
+  pub only : result ≡ status.Usage → job_of words ≡ None
+  pub where_none : job_of words ≡ None → IsOrWantsMemory status.Usage result
+
+-- Where a rule is broken, the run is refused, unless memory or the desk failed.
 abbrev pub IsRefused : Outside → Outside → Status → Type 0
 IsRefused old new result = (result ≡ status.Refused) ⊎ ((result ≡ status.NoMemory) ⊎ Rose old.desk.faults new.desk.faults)
+
+-- Nothing hinders a job: the desk tells its files, they are there, no rule is broken, and no fault was counted.
+pub record IsFree (job : Job) (old new : Outside) : Type 0 where
+  pub told : AreTold old.desk.files
+  pub there : LacksFile job old.desk.files → ⊥
+  pub sound : IsSound (BreaksIn job old.desk.files)
+  pub desk : Rose old.desk.faults new.desk.faults → ⊥
+  pub out : Rose old.faults new.faults → ⊥
 
 -- A desk and a stream of the output that count no faults.
 pub record IsQuiet (seen : Outside) : Type 0 where
   pub desk : seen.desk.faults ≡ 0
   pub out : seen.faults ≡ 0
 
--- the file that the words ask for is there, where the desk tells its files
-abbrev pub HasInput : List (List ℕ) → Told → Type 0
-HasInput words desk = (job : Job) → job_of words ≡ Some job → IsMissing desk.files job.input → ⊥
+-- the files that the words ask for are there, where the desk tells its files
+abbrev pub HasFiles : List (List ℕ) → Told → Type 0
+HasFiles words desk = (job : Job) → job_of words ≡ Some job → LacksFile job desk.files → ⊥

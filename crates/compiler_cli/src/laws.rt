@@ -1,5 +1,5 @@
 ghost use Rattle.std.specs.Prelude.{◌≢◌, ℕ, List};
-ghost use Rattle.compiler_cli.specs.Run.{Answers, HasInput, IsQuiet, Outside, Stream};
+ghost use Rattle.compiler_cli.specs.Run.{Answers, HasFiles, IsQuiet, Outside, Stream};
 
 use crate::failure::Status;
 
@@ -7,5 +7,6 @@ use crate::failure::Status;
 /// nothing when it runs.
 pub fn run_laws()
     ensures quiet { (words : List (List ℕ)) (old new : Outside) (err err' : Stream) (status : Status)
-        → IsQuiet old → IsQuiet new → HasInput words old.desk → Answers words old new err err' status → status ≢ Status.Fault }
+        → IsQuiet old → IsQuiet new → HasFiles words old.desk → Answers words old new err err' status
+        → status ≢ Status.Fault }
 {}

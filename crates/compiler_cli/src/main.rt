@@ -1,17 +1,19 @@
-//! The program: it reads a DXBC container from standard input or a file, translates it, and writes a
-//! SPIR-V module to standard output or a file, or one line that names the first broken rule.
+//! The program: it reads a DXBC container from standard input or a file, translates it under its default binding map,
+//! a binding text or a root signature, and writes a SPIR-V module to standard output or a file, or one line that names
+//! the first broken rule.
 //!
 //! `run` does all that the program does, over any desk and sinks. Its contract cites the definitions
-//! in `specs/`: `Job` for the words, `Run` for what is left, `Texts` for the lines.
+//! in `specs/`: `Output` for the rules of a job and what it makes, `Run` for what is left, `Texts` for the lines; and
+//! in `command_line`, which reads the words, `Job` for what they ask for.
 #![tactic(auto)]
 
-mod command;
 mod failure;
 mod laws;
 mod printed;
 mod report;
 mod run;
 mod streams;
+mod translating;
 
 use crate::failure::Failure;
 use crate::report::{report, report_usage};
@@ -71,5 +73,11 @@ fn main(rt: HostRuntime) -> ExitCode {
     }
 }
 
+#[cfg(test)]
+mod bound;
+#[cfg(test)]
+mod programs;
+#[cfg(test)]
+mod slow;
 #[cfg(test)]
 mod tests;

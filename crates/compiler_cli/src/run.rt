@@ -1,29 +1,46 @@
-ghost use Rattle.std.specs.Prelude.{◌≡◌, ◌↔◌, ◌≤◌, ℕ, List, Ok, Err, Some, None, IfOk, IfErr};
+ghost use Rattle.std.specs.Prelude.{◌≡◌, ◌≤◌, ◌<◌, ◌⊎◌, Some, IfOk, IfErr, OnOk, length};
 ghost use Rattle.word_base.specs.Rules.{IsFirst};
 ghost use Rattle.word_base.specs.Words.{bytes_of};
-ghost use Rattle.outside.specs.Told.{KeepsOutputs, IsMissing};
-ghost use Rattle.compiler_cli.specs.Job.{Job, job_of};
-ghost use Rattle.compiler_cli.specs.Command.{job_in, texts_of};
-ghost use Rattle.compiler_cli.specs.Run.{Answers, BreaksIn, DeliversBy, Ends, IsFile, IsRefused, Makes, FailsBy, outside as seen, stream};
+ghost use Rattle.word_base.specs.declared.rule.Refusal.{Refusal};
+ghost use Rattle.outside.specs.Causes.{Rose};
+ghost use Rattle.outside.specs.Told.{KeepsOutputs};
+ghost use Rattle.outside.specs.Texts.{texts_of};
+ghost use Rattle.command_line.specs.Job.{Job, is_stream, job_of};
+ghost use Rattle.command_line.specs.Shown.{choice_shown, job_shown};
+ghost use Rattle.translator.specs.Shown.{module_words};
+ghost use Rattle.compiler_cli.specs.Output.{BreaksIn, LacksBindingFile, LacksFile};
+ghost use Rattle.compiler_cli.specs.Parts.{Came, FailsToCome, HasBindingsCome};
+ghost use Rattle.compiler_cli.specs.Run.{Answers, DeliversBy, Ends, IsFree, IsOrWantsMemory, IsRefused, IsUsage, outside as seen, stream};
+ghost use Rattle.compiler_cli.specs.Streams.{NothingLeft, StoppedBy, most_read};
 
-use crate::command::{Command, is_stream, read_words};
 use crate::failure::{Failure, Status};
 use crate::report::{report, report_usage};
-use crate::streams::{Stop, read_file, write_words, write_words_to_desk};
+use crate::streams::{PIECE, Stop, read_file, write_module, write_module_to_desk};
+use crate::translating::translate_to;
+use command_line::{BindingChoice, Command, read_words};
 use outside::{Desk, Failed, Sink, Words, outside_laws};
 use std::alloc::Global;
-use straight_lines::translate;
-use word_base::{Halt, Refusal, Rule};
+use translator::ModuleView;
+use word_base::{Refusal, Rule};
 
-/// The most bytes that an input may have.
+/// The most bytes that a file may have.
 const MOST_BYTES: usize = 16_777_216;
 
-/// Does what the words ask for: reads the input through the desk, translates it, and writes the
-/// module to `out`, or to the desk where the words name an output. Where that fails, one line on
-/// `err` says why.
+/// The answer to a file with more.
+const TOO_LARGE: Failure = Failure::Refused(Refusal {
+    rule: Rule::M1,
+    place: 16_777_216,
+});
+
+/// The name of the standard streams.
+const STREAM: &str = "-";
+
+/// Does what the words ask for: reads the input and the file of its binding map through the desk,
+/// translates the input, and writes the module to `out`, or to the desk where the words name an
+/// output. Where that fails, one line on `err` says why.
 ///
-/// The output is made whole before its first byte is written. Before `Refused`, `Usage` and
-/// `NoMemory` nothing is written and no output is begun.
+/// The module is whole before its first byte is written, and no memory is taken from then on. Before
+/// `Refused`, `Usage` and `NoMemory` nothing is written and no output is begun.
 pub fn run<D: Desk, O: Sink, E: Sink>(
     alloc: Global,
     words: &Words,
@@ -31,16 +48,37 @@ pub fn run<D: Desk, O: Sink, E: Sink>(
     out: &mut O,
     err: &mut E,
 ) -> Status
-    ensures usage { (result ≡ Status.Usage) ↔ (job_of (texts_of words.now) ≡ None) }
+    ensures usage { IsUsage (texts_of words.now) result }
     ensures answer { Answers (texts_of words.now)
         (seen (D.told desk.old) (O.written out.old) (O.faults out.old)) (seen (D.told desk.new) (O.written out.new) (O.faults out.new))
         (stream (E.written err.old) (E.faults err.old)) (stream (E.written err.new) (E.faults err.new)) result }
-    ensures missing { (job : Job) → job_of (texts_of words.now) ≡ Some job → IsMissing (D.told desk.old).files job.input → result ≡ Status.Fault }
-    ensures refused { (job : Job) (bytes : List ℕ) (r : Refusal) → job_of (texts_of words.now) ≡ Some job → IsFile (D.told desk.old).files job.input bytes → IsFirst (BreaksIn bytes) r
+    ensures missing { (job : Job) → job_of (texts_of words.now) ≡ Some job → LacksFile job (D.told desk.old).files
+        → IsOrWantsMemory Status.Fault result }
+    ensures refused { (job : Job) (r : Refusal) → job_of (texts_of words.now) ≡ Some job → IsFirst (BreaksIn job (D.told desk.old).files) r
         → IsRefused (seen (D.told desk.old) (O.written out.old) (O.faults out.old)) (seen (D.told desk.new) (O.written out.new) (O.faults out.new)) result }
+    ensures complete { (job : Job) → job_of (texts_of words.now) ≡ Some job
+        → IsFree job (seen (D.told desk.old) (O.written out.old) (O.faults out.old)) (seen (D.told desk.new) (O.written out.new) (O.faults out.new))
+        → IsOrWantsMemory Status.Ok result }
 {
-    let Some(command) = read_words(words) else {
-        return report_usage(err);
+    answer(alloc, words, desk, out, err)
+}
+
+/// Does what the words ask for, and reports why it failed.
+fn answer<D: Desk, O: Sink, E: Sink>(
+    alloc: Global,
+    words: &Words,
+    desk: &mut D,
+    out: &mut O,
+    err: &mut E,
+) -> Status
+    ensures { Answers (texts_of words.now)
+        (seen (D.told desk.old) (O.written out.old) (O.faults out.old)) (seen (D.told desk.new) (O.written out.new) (O.faults out.new))
+        (stream (E.written err.old) (E.faults err.old)) (stream (E.written err.new) (E.faults err.new)) result }
+{
+    let command = match read_words(alloc, words) {
+        Ok(Some(command)) => command,
+        Ok(None) => return report_usage(err),
+        Err(_) => return report(err, Failure::NoMemory),
     };
     match perform(alloc, desk, out, command) {
         Ok(()) => Status::Ok,
@@ -55,57 +93,95 @@ fn perform<D: Desk, O: Sink>(
     out: &mut O,
     command: Command,
 ) -> Result<(), Failure>
-    ensures ends { Ends (job_in command.entry)
+    ensures { Ends (job_shown command.entry)
         (seen (D.told desk.old) (O.written out.old) (O.faults out.old)) (seen (D.told desk.new) (O.written out.new) (O.faults out.new)) result }
-    ensures missing { IsMissing (D.told desk.old).files command.entry.input.now → result ≡ Err Failure.Fault }
 {
-    let words = make(alloc, desk, command.input)?;
-    match deliver(desk, out, command.output, &words) {
-        Ok(()) => Ok(()),
-        Err(_) => Err(Failure::Fault),
+    match read_files(alloc, desk, command) {
+        Ok(files) => {
+            let input = files.input.as_slice();
+            translate_to(alloc, desk, out, command, input, files.bindings.as_slice())
+        }
+        Err(failure) => Err(failure),
     }
 }
 
-/// The words of the module of a file.
-fn make<D: Desk>(alloc: Global, desk: &mut D, name: &str) -> Result<Vec<u32>, Failure>
-    ensures made { IfOk result (λ words. Makes (D.told desk.old) (D.told desk.new) name.now words.items) }
-    ensures failed { IfErr result (FailsBy (D.told desk.old) (D.told desk.new) name.now) }
+/// The files that a job reads.
+#[derive(Drop)]
+struct Files {
+    /// The bytes of its input.
+    input: Vec<u8>,
+    /// The bytes of the file of its binding map, or none where it has none.
+    bindings: Vec<u8>,
+}
+
+/// Reads the file of a binding map, if there is one.
+fn read_bindings<D: Desk>(
+    alloc: Global,
+    desk: &mut D,
+    choice: BindingChoice,
+) -> Result<Vec<u8>, Stop>
+    ensures whole { IfOk result (λ b. HasBindingsCome (D.told desk.old).files (choice_shown choice.entry) b.items) }
+    ensures ended { IfOk result (λ b. length b.items < most_read → NothingLeft (D.told desk.old).left → NothingLeft (D.told desk.new).left) }
+    ensures quiet { OnOk result ((D.told desk.new).faults ≡ (D.told desk.old).faults) }
+    ensures failed { IfErr result (λ e. StoppedBy e
+        (Rose (D.told desk.old).faults (D.told desk.new).faults ⊎ LacksBindingFile (D.told desk.old).files (choice_shown choice.entry))) }
     ensures kept { KeepsOutputs (D.told desk.old) (D.told desk.new) }
-    ensures later { (D.told desk.old).faults ≤ (D.told desk.new).faults }
-    ensures missing { IsMissing (D.told desk.old).files name.now → result ≡ Err Failure.Fault }
 {
-    let bytes = match read_file(alloc, desk, name) {
+    match choice {
+        BindingChoice::Default => Ok(Vec::new(alloc)),
+        BindingChoice::Text(name) => read_file(alloc, desk, name),
+        BindingChoice::Signature(name) => read_file(alloc, desk, name),
+    }
+}
+
+/// Reads the files of a command. It is refused where one of them has too many bytes.
+fn read_files<D: Desk>(alloc: Global, desk: &mut D, command: Command) -> Result<Files, Failure>
+    ensures came { IfOk result (λ f. Came (job_shown command.entry) (D.told desk.old) (D.told desk.new) f.input.items f.bindings.items) }
+    ensures failed { IfErr result (FailsToCome (job_shown command.entry) (D.told desk.old) (D.told desk.new)) }
+    ensures kept { KeepsOutputs (D.told desk.old) (D.told desk.new) }
+{
+    let input = match read_file(alloc, desk, command.input) {
         Ok(bytes) => bytes,
         Err(Stop::Fault) => return Err(Failure::Fault),
         Err(Stop::NoMemory) => return Err(Failure::NoMemory),
     };
-    if bytes.len() > MOST_BYTES {
-        return Err(Failure::Refused(Refusal {
-            rule: Rule::M1,
-            place: 16_777_216,
-        }));
+    let bindings = match read_bindings(alloc, desk, command.bindings) {
+        Ok(bytes) => bytes,
+        Err(Stop::Fault) => return Err(Failure::Fault),
+        Err(Stop::NoMemory) => return Err(Failure::NoMemory),
+    };
+    if input.len() > MOST_BYTES {
+        return Err(TOO_LARGE);
     }
-    match translate(alloc, &bytes) {
-        Ok(words) => Ok(words),
-        Err(Halt::Refused(refusal)) => Err(Failure::Refused(refusal)),
-        Err(Halt::NoMemory) => Err(Failure::NoMemory),
+    if bindings.len() > MOST_BYTES {
+        return Err(TOO_LARGE);
     }
+    Ok(Files { input, bindings })
 }
 
-/// Writes the bytes of words to the stream, or to a new output of the desk.
-fn deliver<D: Desk, O: Sink>(
+/// Whether a name is that of the standard streams.
+fn is_stream(name: &str) -> bool
+    ensures { result ≡ is_stream name.now }
+{
+    name == STREAM
+}
+
+/// Writes the bytes of a module to the stream, or to a new output of the desk.
+pub(crate) fn deliver<D: Desk, O: Sink>(
     desk: &mut D,
     out: &mut O,
     name: &str,
-    words: &[u32],
+    view: &ModuleView,
+    buffer: &mut [u8; PIECE],
 ) -> Result<(), Failed>
     ensures { DeliversBy name.now
-        (seen (D.told desk.old) (O.written out.old) (O.faults out.old)) (seen (D.told desk.new) (O.written out.new) (O.faults out.new)) (bytes_of words.now) result }
+        (seen (D.told desk.old) (O.written out.old) (O.faults out.old)) (seen (D.told desk.new) (O.written out.new) (O.faults out.new))
+        (bytes_of (module_words view.now)) result }
 {
     if is_stream(name) {
-        return write_words(out, words);
+        return write_module(out, view, buffer);
     }
     outside_laws();
     desk.begin_write(name)?;
-    write_words_to_desk(desk, words)
+    write_module_to_desk(desk, view, buffer)
 }

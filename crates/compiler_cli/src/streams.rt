@@ -1,18 +1,17 @@
-ghost use Rattle.std.specs.Prelude.{◌≡◌, ℕ, ◌≤◌, ◌<◌, ◌^◌, ◌⊎◌, List, [], Err, ◌*◌, IsTrue, IfOk, IfErr, OnOk, length, take};
+ghost use Rattle.std.specs.Prelude.{◌≡◌, ℕ, ◌≤◌, ◌<◌, ◌^◌, ◌⊎◌, List, [], Err, IsTrue, IfOk, IfErr, OnOk, length};
 ghost use Rattle.outside.specs.Causes.{HasCause, Rose};
 ghost use Rattle.outside.specs.Told.{KeepsOutputs, IsMissing};
 ghost use Rattle.word_base.specs.Words.{bytes_of};
-ghost use Rattle.compiler_cli.specs.Streams.{WritesBytes, WritesLast, CameWhole, FileCame, NothingLeft, StoppedBy, most_read};
+ghost use Rattle.translator.specs.Shown.{module_words};
+ghost use Rattle.compiler_cli.specs.Streams.{WritesBytes, WritesLast, CameWhole, FileCame, NothingLeft, StoppedBy};
+ghost use Rattle.compiler_cli.specs.Streams.{most_read};
 
-use byteorder::{ByteOrder, LittleEndian};
 use outside::{Desk, Failed, LastOutput, Sink, outside_laws};
 use std::alloc::Global;
+use translator::ModuleView;
 
 /// The size in bytes of the pieces that are read and offered to an output.
-const PIECE: usize = 4096;
-
-/// The number of words in a piece.
-const PIECE_WORDS: usize = 1024;
+pub(crate) const PIECE: usize = 4096;
 
 /// How many bytes of a file are read at most: one more than the longest file that is taken.
 const MOST_READ: usize = 16_777_217;
@@ -61,7 +60,8 @@ pub(crate) fn read_file<D: Desk>(alloc: Global, desk: &mut D, name: &str) -> Res
     ensures ended { IfOk result (λ b. length b.items < most_read → NothingLeft (D.told desk.new).left) }
     ensures missing { IsMissing (D.told desk.old).files name.now → result ≡ Err Stop.Fault }
     ensures quiet { OnOk result ((D.told desk.new).faults ≡ (D.told desk.old).faults) }
-    ensures failed { IfErr result (λ e. StoppedBy e (Rose (D.told desk.old).faults (D.told desk.new).faults ⊎ IsMissing (D.told desk.old).files name.now)) }
+    ensures failed { IfErr result (λ e. StoppedBy e
+        (Rose (D.told desk.old).faults (D.told desk.new).faults ⊎ IsMissing (D.told desk.old).files name.now)) }
     ensures kept { KeepsOutputs (D.told desk.old) (D.told desk.new) }
     ensures later { (D.told desk.old).faults ≤ (D.told desk.new).faults }
     ensures within { (D.told desk.old).faults < 2 ^ 64 → (D.told desk.new).faults < 2 ^ 64 }
@@ -87,41 +87,41 @@ pub(crate) fn write_piece<K: Sink>(sink: &mut K, piece: &[u8]) -> Result<(), Fai
     Ok(())
 }
 
-/// Puts the bytes of the words to the front of the buffer, the lowest byte of each first.
-fn fill(words: &[u32], buffer: &mut [u8; PIECE])
-    requires { length words.now ≤ PIECE_WORDS }
-    ensures { take (4 * length words.now) buffer.new ≡ bytes_of words.now }
-{
-    LittleEndian::write_u32_into(words, &mut buffer[..4 * words.len()]);
-}
-
-/// Writes the bytes of words, the lowest byte of each first, in pieces of which only the last may be
-/// shorter. No words make no call.
-pub(crate) fn write_words<K: Sink>(sink: &mut K, words: &[u32]) -> Result<(), Failed>
-    ensures bytes { WritesBytes (K.written sink.old) (bytes_of words.now) result (K.written sink.new) }
+/// Writes the bytes of a module, in pieces of which only the last may be shorter. It puts each into the buffer, and
+/// takes
+/// no memory.
+pub(crate) fn write_module<K: Sink>(
+    sink: &mut K,
+    view: &ModuleView,
+    buffer: &mut [u8; PIECE],
+) -> Result<(), Failed>
+    ensures bytes { WritesBytes (K.written sink.old) (bytes_of (module_words view.now)) result (K.written sink.new) }
     ensures cause { HasCause (K.faults sink.old) (K.faults sink.new) result }
     ensures kept { K.kept sink.new ≡ K.kept sink.old }
-    ensures nothing { words.now ≡ [] → sink.new ≡ sink.old }
+    ensures nothing { module_words view.now ≡ [] → sink.new ≡ sink.old }
 {
     outside_laws();
-    let mut buffer = [0; PIECE];
+    let size = 4 * view.len();
     let mut done = 0;
-    while done < words.len() {
-        let end = (done + PIECE_WORDS).min(words.len());
-        fill(&words[done..end], &mut buffer);
-        write_piece(sink, &buffer[..4 * (end - done)])?;
-        done = end;
+    while done < size {
+        let count = view.fill(done, buffer);
+        write_piece(sink, &buffer[..count])?;
+        done += count as u32;
     }
     Ok(())
 }
 
-/// Writes the bytes of words to the last output of a desk, as `write_words` does.
-pub(crate) fn write_words_to_desk<D: Desk>(desk: &mut D, words: &[u32]) -> Result<(), Failed>
+/// Writes the bytes of a module to the last output of a desk, as `write_module` does.
+pub(crate) fn write_module_to_desk<D: Desk>(
+    desk: &mut D,
+    view: &ModuleView,
+    buffer: &mut [u8; PIECE],
+) -> Result<(), Failed>
     requires begun { IsTrue (D.told desk.old).begun }
-    ensures bytes { WritesLast (D.told desk.old) (bytes_of words.now) result (D.told desk.new) }
+    ensures bytes { WritesLast (D.told desk.old) (bytes_of (module_words view.now)) result (D.told desk.new) }
     ensures cause { HasCause (D.told desk.old).faults (D.told desk.new).faults result }
-    ensures nothing { words.now ≡ [] → desk.new ≡ desk.old }
+    ensures nothing { module_words view.now ≡ [] → desk.new ≡ desk.old }
 {
     outside_laws();
-    write_words(&mut LastOutput { desk }, words)
+    write_module(&mut LastOutput { desk }, view, buffer)
 }

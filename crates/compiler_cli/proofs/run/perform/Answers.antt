@@ -1,13 +1,27 @@
-use Rattle.std.proofs.Common.{ℕ, List, inr, subst}
-use Rattle.word_base.specs.Words.{bytes_of}
-use Rattle.compiler_cli.specs.Command.{job_in}
-use Rattle.compiler_cli.specs.Run.{DeliversPart}
-use Rattle.compiler_cli.proofs.Runs.{faults_writing}
+use Rattle.std.proofs.Common.{ℕ, List, subst₂}
+use Rattle.command_line.specs.Shown.{job_shown}
+use Rattle.compiler_cli.specs.Parts.{Translates}
+use Rattle.compiler_cli.specs.Run.{outside}
+use Rattle.compiler_cli.proofs.Runs.{ends, not_come}
 use Rattle.compiler_cli.proofs.run.perform.Goals as goal
 
-pub returns-clause-ends : goal.returns-clause-ends
-returns-clause-ends g c =
-    inr (faults_writing (job_in c.args.command) (g.D.Desk.told c.args.desk.now) (g.D.Desk.told c.make.new.desk) (g.D.Desk.told c.deliver.new.desk) _ _ _ _ c.in_ok-words.words.items
-    c.make.ensures.kept c.make.ensures.later c.in_ok-words.ensures.made
-    (subst (λ (x : List ℕ). DeliversPart (job_in c.args.command).output (g.D.Desk.told c.make.new.desk) (g.D.Desk.told c.deliver.new.desk) (g.O.Sink.written c.args.out.now) (g.O.Sink.written c.deliver.new.out) (bytes_of x))
-    c.deref.ensures.value c.in-Err.ensures.0) c.in-Err.ensures.1)
+pub returns-in-Ok : goal.returns-in-Ok
+returns-in-Ok g c =
+    let job = job_shown c.args.command in
+    let mid = outside (g.D.Desk.told c.read_files.new.desk) (g.O.Sink.written c.args.out.now)
+    (g.O.Sink.faults c.args.out.now) in
+    let new = outside (g.D.Desk.told c.translate_to.new.desk) (g.O.Sink.written c.translate_to.new.out)
+    (g.O.Sink.faults c.translate_to.new.out) in
+    ends job c.in-Ok.files.input.items c.in-Ok.files.bindings.items (g.D.Desk.told c.args.desk.now)
+    (g.D.Desk.told c.read_files.new.desk)
+    c.in-Ok.ensures.came c.read_files.ensures.kept new (g.O.Sink.written c.args.out.now)
+    (g.O.Sink.faults c.args.out.now) c.translate_to.result
+    (subst₂ (λ (x y : List ℕ). Translates job mid new x y c.translate_to.result) c.as_slice-input.ensures.value
+    c.as_slice.ensures.value
+    c.translate_to.ensures)
+
+pub returns-in-Err : goal.returns-in-Err
+returns-in-Err g c =
+    not_come (job_shown c.args.command) (g.D.Desk.told c.args.desk.now) (g.D.Desk.told c.read_files.new.desk) _ _
+    c.in-Err.failure
+    c.read_files.ensures.kept c.in-Err.ensures.failed

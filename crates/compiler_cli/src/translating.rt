@@ -1,0 +1,88 @@
+//! The translation of an input that was read to an output.
+ghost use Rattle.std.specs.Prelude.{◌≤◌, length, IfErr, IfOk, OnOk};
+ghost use Rattle.word_base.specs.Rules.{IsSound};
+ghost use Rattle.command_line.specs.Shown.{choice_shown, job_shown};
+ghost use Rattle.compiler_cli.specs.Output.{AreTaken, BreaksFile, IsMapOf};
+ghost use Rattle.compiler_cli.specs.Parts.{IsHindered, Translates};
+ghost use Rattle.compiler_cli.specs.Run.{outside as seen};
+
+use crate::failure::Failure;
+use crate::run::deliver;
+use crate::streams::PIECE;
+use binding_map::{Bindings, from_default, from_root, from_text};
+use command_line::{BindingChoice, Command};
+use outside::{Desk, Sink};
+use root_signature::{parse, signature_laws};
+use std::alloc::Global;
+use tpf_program::Program;
+use translator::{Workspace, input_laws, room_for, translate_read};
+use word_base::Halt;
+
+/// The binding map of a program, by a choice and the bytes of its file.
+fn map_for(
+    alloc: Global,
+    choice: BindingChoice,
+    program: &Program,
+    file: &[u8],
+) -> Result<Bindings, Failure>
+    requires { length file.now ≤ 16777216 }
+    ensures sound { OnOk result (IsSound (BreaksFile (choice_shown choice.entry) file.now)) }
+    ensures map { IfOk result (IsMapOf (choice_shown choice.entry) file.now program.now.shader) }
+    ensures hindered { IfErr result (IsHindered (choice_shown choice.entry) file.now) }
+{
+    match choice {
+        BindingChoice::Default => match from_default(alloc, program) {
+            Ok(bindings) => Ok(bindings),
+            Err(_) => Err(Failure::NoMemory),
+        },
+        BindingChoice::Text(_) => match from_text(alloc, file) {
+            Ok(bindings) => Ok(bindings),
+            Err(Halt::Refused(refusal)) => Err(Failure::Refused(refusal)),
+            Err(Halt::NoMemory) => Err(Failure::NoMemory),
+        },
+        BindingChoice::Signature(_) => match parse(alloc, file) {
+            Ok(root) => match from_root(alloc, &root, program) {
+                Ok(bindings) => Ok(bindings),
+                Err(_) => Err(Failure::NoMemory),
+            },
+            Err(Halt::Refused(refusal)) => Err(Failure::Refused(refusal)),
+            Err(Halt::NoMemory) => Err(Failure::NoMemory),
+        },
+    }
+}
+
+/// Translates an input under the binding map of its command, and writes the module to the output.
+pub(crate) fn translate_to<D: Desk, O: Sink>(
+    alloc: Global,
+    desk: &mut D,
+    out: &mut O,
+    command: Command,
+    input: &[u8],
+    file: &[u8],
+) -> Result<(), Failure>
+    requires taken { AreTaken input.now file.now }
+    ensures { Translates (job_shown command.entry)
+        (seen (D.told desk.old) (O.written out.old) (O.faults out.old)) (seen (D.told desk.new) (O.written out.new) (O.faults out.new))
+        input.now file.now result }
+{
+    input_laws();
+    signature_laws();
+    let Ok(mut work) = Workspace::make(alloc, room_for(input)) else {
+        return Err(Failure::NoMemory);
+    };
+    if let Err(refusal) = work.read(input) {
+        return Err(Failure::Refused(refusal));
+    }
+    let bindings = match map_for(alloc, command.bindings, work.program(), file) {
+        Ok(bindings) => bindings,
+        Err(failure) => return Err(failure),
+    };
+    let mut buffer = [0; PIECE];
+    match translate_read(&mut work, &bindings, command.version) {
+        Ok(view) => match deliver(desk, out, command.output, &view, &mut buffer) {
+            Ok(()) => Ok(()),
+            Err(_) => Err(Failure::Fault),
+        },
+        Err(refusal) => Err(Failure::Refused(refusal)),
+    }
+}
