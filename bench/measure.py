@@ -1,145 +1,155 @@
 #!/usr/bin/env python3
 """Counts what translations cost: instructions a word by callgrind, peak memory, and output words a word.
 
-It makes the longest program (65,536 words of stores to shared memory) and programs of about 1,000, 8,000 and 64,000
-words of mov and iadd, each in a container with its true checksum, and runs them through ./vkd3d-compiler and, where one
-is installed, through the vkd3d-compiler of Wine's vkd3d. Instructions are those of the translation alone: the count of
-the smallest container, which is almost only start-up, is taken off.
+It makes programs of each kind at three sizes, each in a container with its true checksum, and runs them through ./vkd3d-compiler's
+program and, where one is installed, through the vkd3d-compiler of Wine's vkd3d. Instructions are those of the translation alone: the
+count of the smallest container, which is almost only start-up, is taken off.
 
-Usage: bench/measure.py [--names] [DIRECTORY]    (the containers stay in the directory; without one they are thrown away)
+Usage: bench/measure.py [--sizes N,N,..] [--kinds NAME,NAME,..] [DIRECTORY]
 
-With --names it measures programs of few and of many distinct registers and constants in their place, at three sizes.
+The containers stay in the directory; without one they are thrown away.
 """
 
 import os
 import re
 import shutil
-import struct
 import subprocess
 import sys
 import tempfile
 
+from programs import (
+    at_register, constant_buffer, container, do, flat_id, group, indexable, l, mask, of, program, resource_raw, resource_structured,
+    shared_raw, sync, temps, test, thread_id, to, to_register, uav_raw, uav_structured, view,
+)
+
 ROOT = os.path.dirname(os.path.dirname(os.path.abspath(__file__)))
-OURS = os.path.join(ROOT, "crates", "compiler_cli", "out", "compiler_cli")
-
-VERSION = 0x00050050  # cs_5_0
-THREAD_GROUP = [0x0400009B, 1, 1, 1]
-RETURN = [0x0100003E]
-NOP = [0x0100003A]
+OURS = os.environ.get("OURS", os.path.join(ROOT, "crates", "compiler_cli", "out", "compiler_cli"))
+RETURN = do("ret")
 
 
-def program(body):
-    """The words of a program: version, length, and what stands between."""
-    return [VERSION, len(body) + 2] + body
-
-
-def longest():
-    """65,536 words: g0 of four bytes, as many stores to its one word as there is room for, nop to the end."""
-    front = [0x0400009F, 0x0011F000, 0, 4] + THREAD_GROUP
-    store = [0x070000A6, 0x0011F012, 0, 0x00004001, 0, 0x00004001, 1]
-    room = 65536 - 2 - len(front) - len(RETURN)
-    stores, rest = divmod(room, len(store))
-    return program(front + store * stores + NOP * rest + RETURN)
-
-
-def arithmetic(words):
-    """About so many words of mov and iadd on four registers."""
-    front = [0x02000068, 4] + THREAD_GROUP
-    body = []
+def filled(words, front, piece, back=()):
+    """A program of about so many words: the front, pieces by their numbers, what closes them, and ret."""
+    parts = list(front)
+    left = words - 2 - sum(map(len, parts)) - sum(map(len, back)) - 1
     i = 0
-    while len(front) + len(body) + 2 + 1 + 15 <= words:
-        to, a, b = i % 4, (i + 1) % 4, (i + 2) % 4
-        body += [0x08000036, 0x001000F2, to, 0x00004002, 1, 2, 3, 4]  # mov r.xyzw, l(1, 2, 3, 4)
-        body += [0x0700001E, 0x001000F2, to, 0x00100E46, a, 0x00100E46, b]  # iadd r.xyzw, r.xyzw, r.xyzw
+    while True:
+        part = piece(i)
+        if len(part) > left:
+            break
+        parts.append(part)
+        left -= len(part)
         i += 1
-    return program(front + body + RETURN)
+    return program(*parts, *back, RETURN)
 
 
-def registers(words, names):
-    """About so many words of sums on one component, over so many registers in turn."""
-    front = [0x02000068, names] + THREAD_GROUP
-    body = []
-    i = 0
-    while len(front) + len(body) + 2 + 1 + 7 <= words:
-        to, a = i % names, (i + 1) % names
-        body += [0x0700001E, 0x00100012, to, 0x0010000A, a, 0x00004001, 1]  # iadd r.x, r.x, l(1)
-        i += 1
-    return program(front + body + RETURN)
+def r(n, c):
+    return of("r", n, at=c)
 
 
-def constants(words, names):
-    """About so many words of moves of one component, of so many constants in turn."""
-    front = [0x02000068, 1] + THREAD_GROUP
-    body = []
-    i = 0
-    while len(front) + len(body) + 2 + 1 + 5 <= words:
-        body += [0x05000036, 0x00100012, 0, 0x00004001, 7919 * (i % names) + 1]  # mov r0.x, l(..)
-        i += 1
-    return program(front + body + RETURN)
+def one_component(words):
+    """iadd on one component of four registers."""
+    return filled(words, [temps(4), group(1)], lambda i: do("iadd", to("r", i % 4, on="x"), r((i + 1) % 4, "x"), r((i + 2) % 4, "y")))
 
 
-def rotate(x, n):
-    return ((x << n) | (x >> (32 - n))) & 0xFFFFFFFF
+def four_components(words):
+    """mov and iadd on four components of four registers."""
+    def piece(i):
+        a, b, c = i % 4, (i + 1) % 4, (i + 2) % 4
+        return do("mov", to("r", a), l(1, 2, 3, 4)) + do("iadd", to("r", a), of("r", b), of("r", c))
+    return filled(words, [temps(4), group(1)], piece)
 
 
-SINES = [int(abs(__import__("math").sin(i + 1)) * 2**32) & 0xFFFFFFFF for i in range(64)]
-SHIFTS = [7, 12, 17, 22] * 4 + [5, 9, 14, 20] * 4 + [4, 11, 16, 23] * 4 + [6, 10, 15, 21] * 4
+def one_place(words):
+    """Stores to one word of shared memory."""
+    return filled(words, [shared_raw(0, 4), group(1)], lambda i: do("store_raw", to("g", 0, on="x"), l(0), l(1)))
 
 
-def transform(state, block):
-    """One block of MD5 (RFC 1321)."""
-    words = struct.unpack("<16I", block)
-    a, b, c, d = state
-    for i in range(64):
-        if i < 16:
-            f, k = (b & c) | (~b & d), i
-        elif i < 32:
-            f, k = (d & b) | (~d & c), (5 * i + 1) % 16
-        elif i < 48:
-            f, k = b ^ c ^ d, (3 * i + 5) % 16
-        else:
-            f, k = c ^ (b | (~d & 0xFFFFFFFF)), 7 * i % 16
-        f = (f + a + SINES[i] + words[k]) & 0xFFFFFFFF
-        a, d, c, b = d, c, b, (b + rotate(f, SHIFTS[i])) & 0xFFFFFFFF
-    return [(x + y) & 0xFFFFFFFF for x, y in zip(state, (a, b, c, d))]
+def many_places(words):
+    """Stores to 8,192 words of shared memory in turn."""
+    return filled(words, [shared_raw(0, 32768), group(1)], lambda i: do("store_raw", to("g", 0, on="x"), l(4 * (i % 8192)), l(1)))
 
 
-def checksum(content):
-    """The checksum of a container, over all behind it: MD5, with the counts of bits at both ends of the last block."""
-    state = [0x67452301, 0xEFCDAB89, 0x98BADCFE, 0x10325476]
-    whole = len(content) // 64 * 64
-    for at in range(0, whole, 64):
-        state = transform(state, content[at : at + 64])
-    rest = content[whole:]
-    bits = struct.pack("<I", len(content) * 8 & 0xFFFFFFFF)
-    end = struct.pack("<I", (len(content) * 2 | 1) & 0xFFFFFFFF)
-    if len(rest) >= 56:
-        state = transform(state, rest + b"\x80" + bytes(63 - len(rest)))
-        last = bits + bytes(56) + end
-    else:
-        last = bits + rest + b"\x80" + bytes(55 - len(rest)) + end
-    return struct.pack("<4I", *transform(state, last))
+def registers(words):
+    """Sums over the registers r0 to r4095 in turn."""
+    return filled(words, [temps(4096), group(1)], lambda i: do("iadd", to("r", i % 4096, on="x"), r((i + 1) % 4096, "x"), l(1)))
 
 
-def container(words):
-    data = struct.pack("<%dI" % len(words), *words)
-    body = struct.pack("<4I", 1, 44 + len(data), 1, 36) + b"SHEX" + struct.pack("<I", len(data)) + data
-    return b"DXBC" + checksum(body) + body
+def constants(words):
+    """Moves of a new constant each."""
+    return filled(words, [temps(1), group(1)], lambda i: do("mov", to("r", 0, on="x"), l(7919 * i + 1)))
+
+
+def flat_flow(words):
+    """Conditionals with two branches, one after the other."""
+    def piece(i):
+        add = do("iadd", to("r", 0, on="x"), r(0, "x"), l(1))
+        return test("if", r(0, "y")) + add + do("else") + add + do("endif")
+    return filled(words, [temps(1), group(1)], piece)
+
+
+def nested_flow(words):
+    """Loops with a conditional break, nested to 64, one nest after the other."""
+    def piece(i):
+        return (do("loop") + test("breakc", r(0, "y"))) * 64 + do("iadd", to("r", 0, on="x"), r(0, "x"), l(1)) + do("endloop") * 64
+    return filled(words, [temps(1), group(1)], piece)
+
+
+def cases(words):
+    """One switch of many cases."""
+    return filled(words, [temps(1), group(1), do("switch", r(0, "x"))], lambda i: do("case", l(i)) + do("break"), [do("endswitch")])
+
+
+def relative(words):
+    """Words of an array at a register's index."""
+    def piece(i):
+        return do("mov", to("r", i % 4, on="x"), at_register("x", 0, (i + 1) % 4, "y", at="x")) + do(
+            "mov", to_register("x", 0, (i + 2) % 4, "z", on="x"), r(i % 4, "x"))
+    return filled(words, [temps(4), indexable(0, 64), group(1)], piece)
+
+
+def loads(words):
+    """Raw loads of four words at a register's address."""
+    return filled(words, [resource_raw(0), temps(4), group(1)], lambda i: do("ld_raw", to("r", i % 4), r((i + 1) % 4, "x"), of("t", 0)))
+
+
+def stores(words):
+    """Raw stores of four words at a register's address."""
+    return filled(words, [uav_raw(0), temps(4), group(1)], lambda i: do("store_raw", to("u", 0), r(i % 4, "x"), of("r", (i + 1) % 4)))
+
+
+def structured(words):
+    """Structured loads and stores of four words."""
+    def piece(i):
+        return do("ld_structured", to("r", i % 4), r((i + 1) % 4, "x"), l(0), of("t", 0)) + do(
+            "store_structured", to("u", 0), r((i + 1) % 4, "y"), l(0), of("r", i % 4))
+    return filled(words, [resource_structured(0, 16), uav_structured(0, 16), temps(4), group(1)], piece)
+
+
+def atomics(words):
+    """Atomics on a view and on shared memory, with barriers between."""
+    def piece(i):
+        return do("imm_atomic_iadd", to("r", i % 4, on="x"), view("u", 0), r((i + 1) % 4, "x"), l(1)) + do(
+            "atomic_umax", view("g", 0), r(i % 4, "y"), r(i % 4, "x")) + sync(memory=True, threads=True)
+    return filled(words, [uav_raw(0), temps(4), shared_raw(0, 256), group(64)], piece)
+
+
+KINDS = [one_component, four_components, one_place, many_places, registers, constants, flat_flow, nested_flow, cases, relative, loads,
+         stores, structured, atomics]
 
 
 def instructions(command, source):
-    with tempfile.TemporaryDirectory() as work:
+    """How many instructions a run takes; none where valgrind is not there or the run is refused."""
+    with tempfile.TemporaryDirectory() as work, open(source) as given:
         counts = os.path.join(work, "counts")
-        with open(source) as given:
-            run = subprocess.run(
-                ["valgrind", "--tool=callgrind", "--callgrind-out-file=" + counts] + command,
-                stdin=given, stdout=subprocess.DEVNULL, stderr=subprocess.PIPE, text=True,
-            )
+        run = subprocess.run(
+            ["valgrind", "--tool=callgrind", "--callgrind-out-file=" + counts] + command,
+            stdin=given, stdout=subprocess.DEVNULL, stderr=subprocess.PIPE, text=True,
+        )
         found = re.search(r"Collected : (\d+)", run.stderr)
         return int(found.group(1)) if found and run.returncode == 0 else None
 
 
-def run(command, source):
+def measured(command, source):
     """Peak memory in megabytes, the words of the output, and the exit status; the memory is none without GNU time."""
     timed = shutil.which("time")
     front = [timed, "-f", "peak %M"] if timed else []
@@ -150,49 +160,47 @@ def run(command, source):
     return int(found.group(1)) / 1024 if found else None, size // 4, child.returncode
 
 
+def chosen(name, default):
+    for word in sys.argv[1:]:
+        if word.startswith(f"--{name}="):
+            return word.split("=", 1)[1].split(",")
+    return default
+
+
 def main():
-    kept = [word for word in sys.argv[1:] if word != "--names"]
-    keep = kept[0] if kept else None
-    work = keep or tempfile.mkdtemp()
+    kept = [word for word in sys.argv[1:] if not word.startswith("--")]
+    work = kept[0] if kept else tempfile.mkdtemp()
     os.makedirs(work, exist_ok=True)
-    cases = [
-        ("smallest", program(THREAD_GROUP + RETURN)),
-        ("1,000 words", arithmetic(1000)),
-        ("8,000 words", arithmetic(8000)),
-        ("64,000 words", arithmetic(64000)),
-        ("longest", longest()),
-    ]
-    if "--names" in sys.argv:
-        cases[1:] = [
-            (f"{kind.__name__} {words} {names}", kind(words, names))
-            for kind in (registers, constants)
-            for words in (1000, 8000, 64000)
-            for names in (10, words // 16)
-        ]
-    tools = [("ours", [OURS], "-")]
+    sizes = [int(n) for n in chosen("sizes", ["1024", "8192", "65536"])]
+    names = chosen("kinds", [kind.__name__ for kind in KINDS])
+    tools = [("ours", [OURS])]
     theirs = shutil.which("vkd3d-compiler")
     if theirs:
-        tools.append(("vkd3d", [theirs, "-b", "spirv-binary", "--buffer-uav=storage-buffer"], "-"))
-    counted = shutil.which("valgrind") is not None
-    print("| Program | Tool | Words | Instructions a word | Peak memory, MB | Output words a word |")
+        tools.append(("vkd3d", [theirs, "-b", "spirv-binary", "--buffer-uav=storage-buffer", "-"]))
+    smallest = os.path.join(work, "smallest.dxbc")
+    with open(smallest, "wb") as file:
+        file.write(container(program(group(1), RETURN)))
+    start = {name: instructions(command, smallest) for name, command in tools}
+    print("| Program | Words | Tool | Instructions a word | Peak memory, MB | Output words a word |")
     print("|---|---|---|---|---|---|")
-    for name, command, _ in tools:
-        start = None
-        for title, words in cases:
-            source = os.path.join(work, title.replace(",", "").replace(" ", "_") + ".dxbc")
+    for kind in KINDS:
+        if kind.__name__ not in names:
+            continue
+        for size in sizes:
+            words = kind(size)
+            source = os.path.join(work, f"{kind.__name__}_{size}.dxbc")
             with open(source, "wb") as file:
                 file.write(container(words))
-            peak, output, status = run(command, source)
-            if status != 0:
-                print(f"| {title} | {name} | {len(words):,} | refused, status {status} | | |")
-                continue
-            count = instructions(command, source) if counted else None
-            if title == "smallest":
-                start = count
-            spent = f"{(count - start) / len(words):,.0f}" if count is not None and start is not None and title != "smallest" else ""
-            memory = f"{peak:.1f}" if peak is not None else ""
-            print(f"| {title} | {name} | {len(words):,} | {spent} | {memory} | {output / len(words):.2f} |")
-    if not keep:
+            for name, command in tools:
+                peak, output, status = measured(command, source)
+                if status != 0:
+                    print(f"| {kind.__doc__} | {len(words):,} | {name} | refused, status {status} | | |", flush=True)
+                    continue
+                count = instructions(command, source)
+                spent = f"{(count - start[name]) / len(words):,.0f}" if count and start[name] else ""
+                memory = f"{peak:.1f}" if peak is not None else ""
+                print(f"| {kind.__doc__} | {len(words):,} | {name} | {spent} | {memory} | {output / len(words):.2f} |", flush=True)
+    if not kept:
         shutil.rmtree(work)
 
 
