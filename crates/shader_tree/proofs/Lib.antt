@@ -2,6 +2,7 @@ pub mod ChainLemmas
 pub mod CostLemmas
 pub mod Earlier
 pub mod ExtendLemmas
+pub mod LiteralLemmas
 pub mod Making
 pub mod PlanLemmas
 pub mod ReadLemmas

@@ -2,10 +2,11 @@
 use Rattle.std.proofs.Common.{◌<◌, ◌≡◌, ℕ, IsTrue, List, [], ◌∷◌, ◌++◌, length, Option, Some, None, refl, sym, subst, ◌∙◌}
 use Rattle.std.specs.Prelude.{slice_get}
 use Rattle.shader_tree.specs.declared.node.Node.{Node}
-use Rattle.shader_tree.specs.Nodes.{Sort, AWord, ATruth, AStatement, named, sort_of, same_sort, has, is_of_sort, fits, are_nodes, a_statement}
+use Rattle.shader_tree.specs.Nodes.{Sort, AWord, ATruth, AStatement, named, sort_of, same_sort, has, is_of_sort, is_short, fits, are_nodes, are_short, a_statement}
 use Rattle.shader_tree.specs.Terms.{term_by, term_at, Adds}
 use Rattle.shader_tree.specs.Trees.{is_root}
 use Rattle.shader_tree.proofs.Earlier.{pushed, earlier}
+use Rattle.shader_tree.proofs.LiteralLemmas.{none_short, short_more}
 use Rattle.shader_tree.proofs.TermLemmas.{alike, alike_below, term_here, extended}
 use Rattle.shader_tree.proofs.Truths.{get_last}
 
@@ -43,12 +44,17 @@ root_kept : (old : List Node) (n : Node) (root : Option ℕ) → IsTrue (are_nod
 root_kept old n None are h = refl
 root_kept old n (Some id) are h = (extended old n are).names (a_statement id) h
 
--- the invariant of a tree with one more node
-pub added : (old new : List Node) (n : Node) (root : Option ℕ) → IsTrue (are_nodes old) × IsTrue (is_root old root) → IsTrue (fits old n) → new ≡ old ++ n ∷ []
-    → IsTrue (are_nodes new) × IsTrue (is_root new root)
-added old new n root inv f e =
-    subst (λ l. IsTrue (are_nodes l) × IsTrue (is_root l root)) (sym e) (pushed old n inv.0 f, root_kept old n root inv.0 inv.1)
+-- the invariant of a tree
+abbrev pub IsInvariant : List Node → Option ℕ → Type 0
+IsInvariant nodes root = IsTrue (are_nodes nodes) × IsTrue (is_root nodes root) × IsTrue (are_short nodes)
 
-pub none : IsTrue (are_nodes [])
+-- with one more node
+pub added : (old new : List Node) (n : Node) (root : Option ℕ) → IsTrue (are_nodes old) × IsTrue (is_root old root) × IsTrue (are_short old)
+    → IsTrue (fits old n) → IsTrue (is_short n) → new ≡ old ++ n ∷ [] → IsInvariant new root
+added old new n root inv f s e =
+    subst (λ l. IsInvariant l root) (sym e) (pushed old n inv.0 f, root_kept old n root inv.0 inv.1, short_more old n inv.2 s)
+
+-- and without nodes
+pub none : IsInvariant [] None
 unfolding are_nodes
-none = refl
+none = (refl, refl, none_short)

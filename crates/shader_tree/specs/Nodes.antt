@@ -1,6 +1,6 @@
 -- Nodes: the sort of each, and which others it names. A node is named by its id, which is its place in the list of
 -- nodes.
-use Rattle.std.specs.Prelude.{ℕ, nat_lt, Bool, true, false, ◌&&◌, ◌||◌, List, [], ◌∷◌, ◌++◌, Option, Some, None, slice_get}
+use Rattle.std.specs.Prelude.{ℕ, ◌^◌, nat_lt, Bool, true, false, ◌&&◌, ◌||◌, List, [], ◌∷◌, ◌++◌, Option, Some, None, slice_get}
 use Rattle.std.specs.List.{list_all}
 use Rattle.tpf_decode.specs.declared.argument.Kind.{Kind}
 use Rattle.tpf_decode.specs.declared.argument.Kind.TheVariants as kind
@@ -112,3 +112,11 @@ fit_behind before (n ∷ nodes) = fits before n && fit_behind (before ++ n ∷ [
 
 unfoldable pub are_nodes : List Node → Bool
 are_nodes nodes = fit_behind [] nodes
+
+-- THE LITERAL OF EACH NODE IS A WORD, a number below 2 ^ 32.
+abbrev pub is_short : Node → Bool
+is_short (node.Expr (expr.Word w)) = nat_lt w (2 ^ 32)
+is_short other = true
+
+unfoldable pub are_short : List Node → Bool
+are_short nodes = list_all is_short nodes

@@ -13,10 +13,10 @@ ghost use Rattle.shader_tree.specs.Chains.{Link, Run, push, flattened, switched}
 ghost use Rattle.shader_tree.specs.Costs.{words_in, ids_in, node_cost, sum_over};
 ghost use Rattle.shader_tree.specs.Holding.{AreGiven, HoldWords, OfWords, IsOfWords, Keeps};
 ghost use Rattle.shader_tree.specs.Lane.{State, state, with_scratch, with_word, second_operand, step};
-ghost use Rattle.shader_tree.specs.Nodes.{Sort, named, are_nodes};
+ghost use Rattle.shader_tree.specs.Nodes.{Sort, named, are_nodes, are_short};
 ghost use Rattle.shader_tree.specs.Plans.{Performs};
 ghost use Rattle.shader_tree.specs.Reads.{Sight, SameFor};
-ghost use Rattle.shader_tree.specs.Terms.{Term, Set, Write, Load, Store, Atomic, Guard, If, Switch, Then, Nothing, term_by, Stands, Extends, Makes};
+ghost use Rattle.shader_tree.specs.Terms.{Term, Set, Write, Load, Store, Atomic, Guard, If, Switch, Then, Nothing, term_at, term_by, Stands, Extends, Makes};
 ghost use Rattle.shader_tree.specs.Values.{Spaces, Words, words, word, truth, size_of, value};
 
 use word_base::result_laws;
@@ -83,9 +83,10 @@ pub fn step_laws()
         → step g s (state (Run (Switch on cases) ∷ k) t n) ≡ Silent (state (switched w cases k) t n) }
 {}
 
-/// What holds of words: from words the value of an expression is a word, and a step leads to words again.
-/// It does nothing when it runs.
+/// What holds of words: where the literals of nodes are words, so are those of their terms; from words the
+/// value of an expression is a word, and a step leads to words again. It does nothing when it runs.
 pub fn word_laws()
+    ensures literals { (nodes : List Node) (id : ℕ) → IsTrue (are_short nodes) → OfWords (term_at nodes id) }
     ensures value { (g : Spaces) (s : Setting) (t : Words) (e : Term) (w : ℕ)
         → AreGiven g s → HoldWords t → OfWords e → value g s t e ≡ word w → w < 2 ^ 32 }
     ensures step { (g : Spaces) (s : Setting) (x : State) → AreGiven g s → IsOfWords x → Keeps (step g s x) }

@@ -1,7 +1,8 @@
 ghost use Rattle.std.specs.Prelude.{◌≡◌, ◌+◌, ◌-◌, ◌<◌, [], ◌∷◌, ◌++◌, length, slice_get, Some, None, IsTrue, IsSome, IfOk};
 ghost use Rattle.shader_tree.specs.declared.node.Node.TheVariants as node;
-ghost use Rattle.shader_tree.specs.Nodes.{a_statement, has, is_expr, fits, are_nodes};
-ghost use Rattle.shader_tree.specs.Terms.{Stands, Adds};
+ghost use Rattle.shader_tree.specs.Holding.{OfWords};
+ghost use Rattle.shader_tree.specs.Nodes.{a_statement, has, is_expr, fits, is_short, are_nodes, are_short};
+ghost use Rattle.shader_tree.specs.Terms.{term_at, Stands, Adds};
 ghost use Rattle.shader_tree.specs.Trees.{Grown, grown, is_root};
 
 use crate::node::{Expr, Node, Stmt};
@@ -25,7 +26,8 @@ impl Model for Tree {
 
     ghost view = { λ t. grown t.nodes.list t.nodes.capacity t.root };
 
-    ghost invariant = { λ t. IsTrue (are_nodes t.nodes.list) × IsTrue (is_root t.nodes.list t.root) };
+    ghost invariant = { λ t. IsTrue (are_nodes t.nodes.list) × IsTrue (is_root t.nodes.list t.root)
+        × IsTrue (are_short t.nodes.list) };
 }
 
 impl Tree {
@@ -50,7 +52,7 @@ impl Tree {
         ensures tree { self.new ≡ record self.old { nodes = self.old.nodes ++ node.Expr e ∷ [] } }
         ensures adds { Adds self.old.nodes self.new.nodes (node.Expr e) result }
     {
-        self.nodes.push(Node::Expr(e))
+        self.nodes.push(node_of(e))
     }
 
     /// Adds a statement, and returns its id. What it names must be there and of the right sorts, and there
@@ -92,6 +94,7 @@ impl Tree {
         requires { IsSome self.now.root }
         ensures root { self.now.root ≡ Some result }
         ensures statement { IsTrue (has self.now.nodes (a_statement result)) }
+        ensures literals { OfWords (term_at self.now.nodes result) }
     {
         match self.root {
             Some(root) => root,
@@ -114,10 +117,11 @@ impl Tree {
         self.nodes.capacity() - self.nodes.len()
     }
 
-    /// The nodes. The node of an id stands at that place, and each names earlier ones.
+    /// The nodes. The node of an id stands at that place, each names earlier ones, and literals are words.
     pub fn nodes(&self) -> &Pool<Node>
         ensures nodes { result.now.list ≡ self.now.nodes }
         ensures earlier { IsTrue (are_nodes self.now.nodes) }
+        ensures literals { IsTrue (are_short self.now.nodes) }
         ensures capacity { result.now.capacity ≡ self.now.capacity }
     {
         &self.nodes
@@ -129,5 +133,16 @@ impl Tree {
     {
         self.nodes.clear();
         self.root = None;
+    }
+}
+
+/// The node of an expression. Its literal is a word.
+fn node_of(e: Expr) -> Node
+    ensures node { result ≡ node.Expr e }
+    ensures literal { IsTrue (is_short result) }
+{
+    match e {
+        Expr::Word(w) => Node::Expr(Expr::Word(w)),
+        _ => Node::Expr(e),
     }
 }

@@ -1,6 +1,10 @@
+use Rattle.shader_tree.proofs.LiteralLemmas.{of_words}
 use Rattle.shader_tree.proofs.WordLemmas.{results_of, value_word}
 use Rattle.shader_tree.proofs.WordSteps.{step_keeps}
 use Rattle.shader_tree.proofs.laws.word_laws.Goals as goal
+
+pub returns-clause-literals : goal.returns-clause-literals
+returns-clause-literals c = of_words
 
 pub returns-clause-value : goal.returns-clause-value
 returns-clause-value c g s t e w given holds o is =

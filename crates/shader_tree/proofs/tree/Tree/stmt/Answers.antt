@@ -1,4 +1,4 @@
-use Rattle.std.proofs.Common.{subst, sym, ap}
+use Rattle.std.proofs.Common.{refl, subst, sym, ap}
 use Rattle.std.specs.Prelude.{IsTrue}
 use Rattle.shader_tree.specs.declared.node.Node.TheVariants as node
 use Rattle.shader_tree.specs.Nodes.{fits}
@@ -10,7 +10,7 @@ pub invariant_of-self : goal.invariant_of-self
 invariant_of-self c =
     let seen = sym (ap (λ t. t.nodes) c.self.view_is) in
     let f = subst (λ l. IsTrue (fits l (node.Stmt c.args.s))) seen c.requires.fits in
-    added _ _ (node.Stmt c.args.s) _ c.self.invariant f c.push.ensures.list
+    added _ _ (node.Stmt c.args.s) _ c.self.invariant f refl c.push.ensures.list
 
 pub returns-clause-adds : goal.returns-clause-adds
 returns-clause-adds c =
