@@ -38,6 +38,13 @@ is_read to c d o = meets to c (seen o.place.vector) (selected o.argument.select 
 abbrev pub are_read : Meaning → Operands → Vector → ℕ → ℕ → Bool
 are_read m os to c d = list_any (is_read to c d) (begun_sources m os)
 
+-- a source may name the register of the vector, in whatever component
+abbrev pub is_near : Vector → Operand → Bool
+is_near to o = meets to 0 (seen o.place.vector) 0
+
+abbrev pub shares : Meaning → Operands → Vector → Bool
+shares m os to = list_any (is_near to) (begun_sources m os)
+
 abbrev pub of_four : (ℕ → Bool) → Bool
 of_four f = f 0 || (f 1 || (f 2 || f 3))
 

@@ -2,7 +2,7 @@ ghost use Rattle.std.specs.Prelude.{◌≡◌, ◌+◌, ◌<◌, ◌≤◌, IsTr
 ghost use Rattle.shader_tree.specs.Nodes.{a_word, has};
 ghost use Rattle.shader_tree.specs.Terms.{Nothing};
 ghost use Rattle.raise_alu.specs.Computing.{is_double, is_single, writes_first, writes_second};
-ghost use Rattle.raise_alu.specs.Waits.{is_read, are_read, first_reads, first_is_read, second_reads, second_is_read, stands_behind, second_is_late, now_of, behind_of, turn_nodes};
+ghost use Rattle.raise_alu.specs.Waits.{is_read, are_read, is_near, shares, first_reads, first_is_read, second_reads, second_is_read, stands_behind, second_is_late, now_of, behind_of, turn_nodes};
 ghost use Rattle.raise_operands.specs.Building.{CanWrite, Grows, IsStep, is_written, seen, known_target};
 ghost use Rattle.raise_operands.specs.Vectors.{Outside};
 
@@ -32,6 +32,13 @@ fn is_read(operand: &Operand, to: Vector, c: u8, d: u8) -> bool
     )
 }
 
+/// Whether a source may name the register of a vector.
+fn is_near(operand: &Operand, to: Vector) -> bool
+    ensures { result ≡ is_near (seen to) operand.now }
+{
+    meets(to, 0, operand.place.vector, 0)
+}
+
 /// Whether one of the sources does.
 fn are_read(meaning: Meaning, operands: &Operands, to: Vector, c: u8, d: u8) -> bool
     requires { d < 4 }
@@ -54,6 +61,24 @@ fn are_read(meaning: Meaning, operands: &Operands, to: Vector, c: u8, d: u8) -> 
         Meaning::Swaps => {
             is_read(&o.o2, to, c, d) || is_read(&o.o3, to, c, d) || is_read(&o.o4, to, c, d)
         }
+        _ => false,
+    }
+}
+
+/// Whether one of the sources may name the register of a vector, in whatever component.
+fn shares(meaning: Meaning, operands: &Operands, to: Vector) -> bool
+    ensures { result ≡ shares meaning operands.now (seen to) }
+{
+    let o = operands;
+    match meaning {
+        Meaning::One(_) => is_near(&o.o1, to),
+        Meaning::Two(_) => is_near(&o.o1, to) || is_near(&o.o2, to),
+        Meaning::Three(_) => is_near(&o.o1, to) || is_near(&o.o2, to) || is_near(&o.o3, to),
+        Meaning::Inserts => {
+            is_near(&o.o1, to) || is_near(&o.o2, to) || is_near(&o.o3, to) || is_near(&o.o4, to)
+        }
+        Meaning::Pair(_) => is_near(&o.o2, to) || is_near(&o.o3, to),
+        Meaning::Swaps => is_near(&o.o2, to) || is_near(&o.o3, to) || is_near(&o.o4, to),
         _ => false,
     }
 }
@@ -104,13 +129,15 @@ fn first_reads(meaning: Meaning, operands: &Operands, c: u8, d: u8) -> bool
 }
 
 /// Whether a component of the first destination is read by what is written later.
+#[tactic(auto, using(crate::proofs::Near::unread_first))]
 fn first_is_read(meaning: Meaning, operands: &Operands, c: u8) -> bool
     ensures { result ≡ first_is_read meaning operands.now c }
 {
-    first_reads(meaning, operands, c, 0)
-        || first_reads(meaning, operands, c, 1)
-        || first_reads(meaning, operands, c, 2)
-        || first_reads(meaning, operands, c, 3)
+    shares(meaning, operands, target(operands.o0))
+        && (first_reads(meaning, operands, c, 0)
+            || first_reads(meaning, operands, c, 1)
+            || first_reads(meaning, operands, c, 2)
+            || first_reads(meaning, operands, c, 3))
 }
 
 /// Whether a component of the second destination is read for a later one, `d`.
@@ -124,13 +151,15 @@ fn second_reads(meaning: Meaning, operands: &Operands, c: u8, d: u8) -> bool
 }
 
 /// Whether a component of the second destination is read for a later one.
+#[tactic(auto, using(crate::proofs::Near::unread_second))]
 fn second_is_read(meaning: Meaning, operands: &Operands, c: u8) -> bool
     ensures { result ≡ second_is_read meaning operands.now c }
 {
-    second_reads(meaning, operands, c, 0)
-        || second_reads(meaning, operands, c, 1)
-        || second_reads(meaning, operands, c, 2)
-        || second_reads(meaning, operands, c, 3)
+    shares(meaning, operands, target(operands.o1))
+        && (second_reads(meaning, operands, c, 0)
+            || second_reads(meaning, operands, c, 1)
+            || second_reads(meaning, operands, c, 2)
+            || second_reads(meaning, operands, c, 3))
 }
 
 /// Whether a component of the second destination may be that of the first, which waits.
