@@ -20,4 +20,4 @@ mod walk;
 
 pub use laws::{advance_laws, chain_laws, leap_laws, raised_lane_laws, spot_laws};
 pub use raising::raise;
-pub use trees::{program_word_laws, raised_tree_laws, test_laws};
+pub use trees::{program_word_laws, raised_tree_laws};

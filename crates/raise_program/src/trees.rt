@@ -1,5 +1,5 @@
 //! no code: what proofs above may cite of the tree of a whole program
-ghost use Rattle.std.specs.Prelude.{◌≡◌, ℕ, Bool, IsTrue, List, Some, false, slice_get};
+ghost use Rattle.std.specs.Prelude.{◌≡◌, ℕ, List, Some, slice_get};
 ghost use Rattle.tpf_program.specs.Holding.{AreOfWords, IsProgramOfWords};
 ghost use Rattle.tpf_program.specs.Program.{Shader};
 ghost use Rattle.tpf_program.specs.declared.instruction.Instruction.{Instruction};
@@ -7,8 +7,6 @@ ghost use Rattle.binding_map.specs.Bindings.{Binding};
 ghost use Rattle.binding_map.specs.Fits.{is_null_in};
 ghost use Rattle.shader_check.specs.Checked.{IsChecked as BreaksNoRule};
 ghost use Rattle.shader_check.specs.Statements.{IsNested};
-ghost use Rattle.shader_tree.specs.Terms.{Term};
-ghost use Rattle.shader_tree.specs.Walks.{holds_no};
 ghost use Rattle.raise_operands.specs.Raises.{IsChecked};
 ghost use Rattle.raise_program.specs.Parts.{parts_of};
 ghost use Rattle.raise_program.specs.Raised.{raised};
@@ -41,13 +39,6 @@ pub fn raised_tree_laws()
     raisable_laws();
     raised_laws();
 }
-
-/// A test of terms that takes no more than another one is passed by no term of a tree where that other one
-/// is passed by none. It does nothing when it runs.
-pub fn test_laws()
-    ensures { (f g : Term → Bool) (t : Term) → ((x : Term) → g x ≡ false → f x ≡ false) → IsTrue (holds_no g t)
-        → IsTrue (holds_no f t) }
-{}
 
 /// A program that breaks no rule holds words: its immediate constants, its strides, and the immediate
 /// operands of its instructions. It does nothing when it runs.
