@@ -15,6 +15,7 @@ mod module;
 mod naming;
 mod numbered;
 mod putting;
+mod recent;
 mod row;
 mod sorting;
 mod symbol;

@@ -6,19 +6,20 @@ ghost use Rattle.spirv_symbols.specs.Tables.{Table, Has, Absent, AreThere, Stand
 use crate::context::Context;
 use crate::entry::Entry;
 use crate::naming::{key, symbol_at};
+use crate::recent::RecentKeys;
 use crate::row::{Part, part_at, part_count, row_of};
 use crate::symbol::Symbol;
-use node_pool::{Keys, Pool};
+use node_pool::Pool;
 use std::alloc::Global;
 use std::marker::Model;
 use word_base::NoMemory;
 
 /// The symbols of a module, each with one id, in the order in which they came, and the ids that are free.
 ///
-/// An entry keeps its place and its id. Only `make` takes memory.
+/// An entry keeps its place and its id, and most are found in one step. Only `make` takes memory.
 #[derive(Drop)]
 pub struct Symbols {
-    keys: Keys,
+    keys: RecentKeys,
     ids: Pool<u32>,
     next: u32,
 }
@@ -49,7 +50,7 @@ impl Symbols {
     pub fn make(alloc: Global, limit: u32) -> Result<Symbols, NoMemory>
         ensures { IfOk result (λ s. s ≡ empty_table limit) }
     {
-        let keys = Keys::make(alloc, limit)?;
+        let keys = RecentKeys::make(alloc, limit)?;
         let ids = Pool::make(alloc, limit)?;
         Ok(Symbols { keys, ids, next: 1 })
     }

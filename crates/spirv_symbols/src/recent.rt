@@ -1,0 +1,119 @@
+//! Distinct keys, most of which are found in one step.
+ghost use Rattle.std.specs.Prelude.{◌≡◌, ◌<◌, ◌≤◌, ◌++◌, ◌∷◌, [], length, slice_get, Some, Contains, IfSome, IfNone, IfOk};
+ghost use Rattle.node_pool.specs.Keys.{keyed, AreDistinct};
+
+use node_pool::{Key, Keys};
+use std::alloc::Global;
+use std::marker::Model;
+use word_base::NoMemory;
+
+/// How many places there are for keys that are found in one step.
+const PLACES: u32 = 1024;
+
+/// Distinct keys in the order in which they were added, with a fixed capacity, as `Keys` has them.
+///
+/// Each key has a place, and of the keys of one place the one that was added last is found in one step; the others are
+/// found as `Keys` finds them. A place may hold any index, since the key at that index is looked at.
+///
+/// Only `make` takes memory.
+#[derive(Drop)]
+pub(crate) struct RecentKeys {
+    keys: Keys,
+    places: [u32; 1024],
+}
+
+impl Model for RecentKeys {
+    ghost use Rattle.node_pool.specs.declared.key.Key.{Key};
+    ghost use Rattle.node_pool.specs.Pools.{Pooled, pooled, pooled_code};
+    ghost use Rattle.node_pool.specs.Keys.{key_code};
+
+    ghost Value = { Pooled Key };
+
+    ghost coded = { pooled_code key_code };
+
+    ghost view = { λ k. pooled k.keys.list k.keys.capacity };
+}
+
+/// The place of a key.
+fn place_of(key: Key) -> usize
+    ensures { result < 1024 }
+{
+    (key.kind.wrapping_mul(61).wrapping_add(key.number) % PLACES) as usize
+}
+
+impl RecentKeys {
+    /// Makes an empty list with room for `capacity` keys.
+    ///
+    /// # Errors
+    ///
+    /// `NoMemory` where the memory for them cannot be had.
+    pub(crate) fn make(alloc: Global, capacity: u32) -> Result<RecentKeys, NoMemory>
+        ensures { IfOk result (λ k. k ≡ keyed [] capacity) }
+    {
+        let keys = Keys::make(alloc, capacity)?;
+        Ok(RecentKeys {
+            keys,
+            places: [0; 1024],
+        })
+    }
+
+    /// Returns the number of keys.
+    pub(crate) fn len(&self) -> u32
+        ensures len { result ≡ length self.now.list }
+        ensures within { result ≤ self.now.capacity }
+        ensures distinct { AreDistinct self.now.list }
+    {
+        self.keys.len()
+    }
+
+    /// Returns the number of keys that there is room for.
+    pub(crate) fn capacity(&self) -> u32
+        ensures capacity { result ≡ self.now.capacity }
+        ensures within { length self.now.list ≤ result }
+    {
+        self.keys.capacity()
+    }
+
+    /// Returns the key with the index `i`.
+    pub(crate) fn at(&self, i: u32) -> Key
+        requires { i < length self.now.list }
+        ensures { slice_get self.now.list i ≡ Some result }
+    {
+        self.keys.at(i)
+    }
+
+    /// Returns the index of a key, and `None` exactly where it was not added.
+    pub(crate) fn find(&self, key: Key) -> Option<u32>
+        ensures found { IfSome result (λ i. slice_get self.now.list i ≡ Some key) }
+        ensures absent { IfNone result (Contains self.now.list key → ⊥) }
+    {
+        let i = self.places[place_of(key)];
+        if i < self.keys.len() {
+            let there = self.keys.at(i);
+            if there.kind == key.kind && there.number == key.number {
+                return Some(i);
+            }
+        }
+        self.keys.find(key)
+    }
+
+    /// Adds a key at the end, and returns its index. It must not be there, and there must be room for it.
+    pub(crate) fn add(&mut self, key: Key) -> u32
+        requires absent { Contains self.old.list key → ⊥ }
+        requires room { length self.old.list < self.old.capacity }
+        ensures id { result ≡ length self.old.list }
+        ensures list { self.new.list ≡ self.old.list ++ key ∷ [] }
+        ensures capacity { self.new.capacity ≡ self.old.capacity }
+    {
+        let i = self.keys.add(key);
+        self.places[place_of(key)] = i;
+        i
+    }
+
+    /// Takes all keys out. The capacity stays.
+    pub(crate) fn clear(&mut self)
+        ensures { self.new ≡ keyed [] self.old.capacity }
+    {
+        self.keys.clear();
+    }
+}
