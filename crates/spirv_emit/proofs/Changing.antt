@@ -22,7 +22,7 @@ use Rattle.spirv_symbols.specs.declared.symbol.TypeSymbol.TheVariants as symbol
 use Rattle.spirv_symbols.specs.Tables.{Has}
 use Rattle.spirv_emit.specs.Emission.{Emission}
 use Rattle.spirv_emit.specs.Begun.{IsBegun}
-use Rattle.spirv_emit.specs.Blocks.{Meets, Atomics}
+use Rattle.spirv_emit.specs.Blocks.{Assigns, Meets, Atomics}
 use Rattle.spirv_emit.specs.Joins.{always, joined, only}
 use Rattle.spirv_words.specs.Roles.{Atomics as Asked}
 use Rattle.spirv_words.specs.Ids.{ids_of}
@@ -32,7 +32,7 @@ use Rattle.spirv_emit.specs.Lanes.{Site, IsWhole}
 use Rattle.spirv_emit.specs.Linked.{IsPointer}
 use Rattle.spirv_emit.specs.ModuleShape.{Seen, marks_of, pointer_room}
 use Rattle.spirv_emit.specs.Rooms.{PointsTo, class_of, room_word, IsOne, number_of_act}
-use Rattle.spirv_emit.specs.Steps.{Adds, IsPut}
+use Rattle.spirv_emit.specs.Steps.{Adds}
 use Rattle.spirv_emit.specs.Values.{slot, a_word, Gives, valued}
 use Rattle.spirv_emit.proofs.Forms.{acts}
 use Rattle.spirv_emit.proofs.Giving.{then', leads_front, leads_back, only_gives, only_leads, named_gives}
@@ -184,9 +184,9 @@ module _ (a b c d e k : Emission) (n at v p one zero' r t : ℕ) (q : Room) (kin
       named_gives d d (symbols.Constant n) o (Word n) symbol.Word refl refl
       (there_named d (symbols.Constant n) o has (has_below d.frame.context d.symbols (symbols.Constant n) o begun.table has))
 
-  pub change_meets : IsOne kind → Adds d e (instr (number_of_act kind) (t ∷ r ∷ p ∷ one ∷ zero' ∷ v ∷ [])) r → IsPut e k (kept.Scratch n) r
+  pub change_meets : IsOne kind → Adds d e (instr (number_of_act kind) (t ∷ r ∷ p ∷ one ∷ zero' ∷ v ∷ [])) r → Assigns e k (kept.Scratch n) r
       → Meets a k (shape.Changes q kind) (Atomics n q x kind y w)
-  change_meets is add put =
+  change_meets is add out =
       let m = to.gives in
       let ptr = slot p (symbol.WordPointer (class_of q)) in
       let f1 = joined (valued x) [] (valued y) in
@@ -201,7 +201,7 @@ module _ (a b c d e k : Emission) (n at v p one zero' r t : ℕ) (q : Room) (kin
       let rs = ptr ∷ a_word one ∷ a_word zero' ∷ a_word v ∷ [] in
       let g5 = only_gives a d [] (a_word zero' ∷ a_word one ∷ ptr ∷ a_word v ∷ a_word at ∷ []) rs f4 (2 ∷ 1 ∷ 0 ∷ 3 ∷ []) g4 refl in
       let os = p ∷ one ∷ zero' ∷ v ∷ [] in
-      answer_meets a d e k rs (only (2 ∷ 1 ∷ 0 ∷ 3 ∷ []) f4) (instr (number_of_act kind) (t ∷ r ∷ os)) r t n g5 add put (typed_atomic kind t r os)
+      answer_meets a d e k rs (only (2 ∷ 1 ∷ 0 ∷ 3 ∷ []) f4) (instr (number_of_act kind) (t ∷ r ∷ os)) r t n g5 add out (typed_atomic kind t r os)
       (plain_atomic kind t r os) has
       (λ z comp l is. subst (λ o. TakesBy z.names l o (ids_of (instr (number_of_act kind) (t ∷ r ∷ os))).uses (t ∷ r ∷ os))
       (sym (asks_atomic kind t r os))
@@ -239,9 +239,9 @@ module _ (a b c d e k o : Emission) (n at v u p one zero' r t : ℕ) (q : Room) 
       named_gives e e (symbols.Constant n) o (Word n) symbol.Word refl refl
       (there_named e (symbols.Constant n) o has (has_below e.frame.context e.symbols (symbols.Constant n) o begun.table has))
 
-  pub exchange_meets : Adds e k (instr 230 (t ∷ r ∷ p ∷ one ∷ zero' ∷ zero' ∷ u ∷ v ∷ [])) r → IsPut k o (kept.Scratch n) r
+  pub exchange_meets : Adds e k (instr 230 (t ∷ r ∷ p ∷ one ∷ zero' ∷ zero' ∷ u ∷ v ∷ [])) r → Assigns k o (kept.Scratch n) r
       → Meets a o (shape.Changes q act.CompareExchange) (Atomics n q x act.CompareExchange y w)
-  exchange_meets add put =
+  exchange_meets add out =
       let m = to.gives in
       let ptr = slot p (symbol.WordPointer (class_of q)) in
       let f1 = joined (valued x) [] (valued y) in
@@ -258,7 +258,7 @@ module _ (a b c d e k o : Emission) (n at v u p one zero' r t : ℕ) (q : Room) 
       let rs = ptr ∷ a_word one ∷ a_word zero' ∷ a_word u ∷ a_word v ∷ [] in
       let g6 = only_gives a e [] (a_word zero' ∷ a_word one ∷ ptr ∷ a_word u ∷ a_word v ∷ a_word at ∷ []) rs f5 (2 ∷ 1 ∷ 0 ∷ 3 ∷ 4 ∷ []) g5 refl in
       let os = p ∷ one ∷ zero' ∷ zero' ∷ u ∷ v ∷ [] in
-      answer_meets a e k o rs (only (2 ∷ 1 ∷ 0 ∷ 3 ∷ 4 ∷ []) f5) (instr 230 (t ∷ r ∷ os)) r t n g6 add put refl (refl, refl) has
+      answer_meets a e k o rs (only (2 ∷ 1 ∷ 0 ∷ 3 ∷ 4 ∷ []) f5) (instr 230 (t ∷ r ∷ os)) r t n g6 add out refl (refl, refl) has
       (λ z comp l is. (
         comp.has (symbols.AType symbol.Word) t has,
         (class_of q, is.0, event_class q),

@@ -1,5 +1,5 @@
 -- What the code of statements does: words that wait, and events.
-use Rattle.std.proofs.Common.{◌≡◌, ℕ, ◌+◌, ◌<◌, [], ◌∷◌, Some, refl, sym, ap, ◌∙◌, subst, true}
+use Rattle.std.proofs.Common.{◌≡◌, ℕ, ◌+◌, ◌<◌, [], ◌∷◌, Some, refl, sym, ap, ◌∙◌, true}
 use Rattle.std.specs.Prelude.{slice_get, nat_lt, Ok, IsTrue}
 use Rattle.std.proofs.lemmas.Bool.{lt-ltb}
 use Rattle.word_base.specs.Lanes.{Asks}
@@ -7,7 +7,6 @@ use Rattle.word_base.specs.declared.event.Event.TheVariants as event
 use Rattle.word_base.specs.declared.event.Room.{Room}
 use Rattle.word_base.specs.declared.event.Room.TheVariants as room
 use Rattle.kept_values.specs.declared.word.Word.TheVariants as kept
-use Rattle.kept_values.specs.Tables.{dirty_in}
 use Rattle.shader_tree.specs.Shape as shape
 use Rattle.shader_tree.specs.Terms.{Term}
 use Rattle.spirv_words.specs.Text.{instr}
@@ -19,31 +18,24 @@ use Rattle.spirv_symbols.specs.declared.symbol.Symbol.TheVariants as symbols
 use Rattle.spirv_symbols.specs.declared.symbol.TypeSymbol.TheVariants as symbol
 use Rattle.spirv_symbols.specs.Tables.{Has}
 use Rattle.spirv_emit.specs.Emission.{Emission}
-use Rattle.spirv_emit.specs.Blocks.{Alters, Meets, Sets, Loads, Stores}
+use Rattle.spirv_emit.specs.Blocks.{Alters, Assigns, Meets, Sets, Loads, Stores}
 use Rattle.spirv_emit.specs.Joins.{joined, only}
 use Rattle.spirv_words.specs.StorageClass.{has_events}
 use Rattle.spirv_emit.specs.Code.{is_loaded, is_stored}
 use Rattle.spirv_emit.specs.Lanes.{Site, IsWhole}
 use Rattle.spirv_emit.specs.Rooms.{PointsTo, class_of, room_word}
-use Rattle.spirv_emit.specs.Steps.{Adds, Acts, IsPut}
+use Rattle.spirv_emit.specs.Steps.{Adds, Acts}
 use Rattle.spirv_emit.specs.Values.{slot, a_word, Gives, valued}
 use Rattle.spirv_emit.proofs.Forms.{acts}
 use Rattle.spirv_emit.proofs.Giving.{then', leads_back, only_gives, only_leads}
 use Rattle.spirv_emit.proofs.Links.{load_seen, store_seen}
-use Rattle.spirv_emit.proofs.Memory.{PutsWell, sets_well}
-use Rattle.spirv_emit.proofs.Stores.{event_meets, answer_meets, put_alters}
+use Rattle.spirv_emit.proofs.Stores.{event_meets, answer_meets, assigned_alters}
 
 -- A SCRATCH WORD is set.
-pub set_alters : (a b c : Emission) (n r : ℕ) (x : Term) → Gives a b [] (a_word r ∷ []) (valued x) → IsPut b c (kept.Scratch n) r
+pub set_alters : (a b c : Emission) (n r : ℕ) (x : Term) → Gives a b [] (a_word r ∷ []) (valued x) → Assigns b c (kept.Scratch n) r
     → Alters a c (Sets n x)
-set_alters a b c n r x g put =
-    put_alters a b c (kept.Scratch n) r (valued x) g put (Sets n x)
-    (λ z comp t u e. (
-      e.0,
-      (let v = e.1 in rw v refl),
-      subst (PutsWell z.frame (kept.Scratch n) e.0 (dirty_in b.kept) (dirty_in c.kept) t) (sym e.2)
-          (sets_well z.frame n e.0 (dirty_in b.kept) (dirty_in c.kept) t put.puts.still put.puts.marked),
-    ))
+set_alters a b c n r x g y =
+    assigned_alters a b c (kept.Scratch n) r (valued x) g y (Sets n x) (λ z comp t u e. (e.0, (let v = e.1 in rw v refl), e.2))
 
 -- THE LANE at the instructions on rooms.
 module _ (z : Site) (s : State) (whole : IsWhole z) where
@@ -81,14 +73,14 @@ event_class (room.Counter x) = refl
 -- LOADS AND STORES.
 pub load_meets : (a b c d e : Emission) (n at p r t : ℕ) (q : Room) (x : Term) → Gives a b [] (a_word at ∷ []) (valued x)
     → PointsTo b c q at p → Has c.symbols.entries (symbols.AType symbol.Word) t
-    → Adds c d (instr 61 (t ∷ r ∷ p ∷ [])) r → IsPut d e (kept.Scratch n) r → Meets a e (shape.Loads q) (Loads n q x)
-load_meets a b c d e n at p r t q x g to has add put =
+    → Adds c d (instr 61 (t ∷ r ∷ p ∷ [])) r → Assigns d e (kept.Scratch n) r → Meets a e (shape.Loads q) (Loads n q x)
+load_meets a b c d e n at p r t q x g to has add y =
     let h = to.gives in
     let ptr = slot p (symbol.WordPointer (class_of q)) in
     let f = joined (valued x) (0 ∷ []) (room_word q) in
     let two = then' a b c [] (a_word at ∷ []) (a_word at ∷ []) (ptr ∷ []) (valued x) (room_word q) (0 ∷ []) g h refl in
     let one = only_gives a c [] (ptr ∷ a_word at ∷ []) (ptr ∷ []) f (0 ∷ []) two refl in
-    answer_meets a c d e (ptr ∷ []) (only (0 ∷ []) f) (instr 61 (t ∷ r ∷ p ∷ [])) r t n one add put refl (refl, refl) has
+    answer_meets a c d e (ptr ∷ []) (only (0 ∷ []) f) (instr 61 (t ∷ r ∷ p ∷ [])) r t n one add y refl (refl, refl) has
     (λ z comp k is. (comp.has (symbols.AType symbol.Word) t has, (class_of q, is.0, loaded_class q))) (shape.Loads q)
     (λ z places comp linked here is.
     let led = only_leads a c [] (ptr ∷ a_word at ∷ []) (ptr ∷ []) f (0 ∷ []) two refl q p

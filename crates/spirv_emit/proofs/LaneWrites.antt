@@ -1,6 +1,6 @@
 -- What the code of writes to words of the lane does.
-use Rattle.std.proofs.Common.{◌≡◌, ℕ, ◌<◌, List, [], ◌∷◌, Option, Some, None, refl, sym, ap, ◌∙◌, subst, arith, true, false}
-use Rattle.std.specs.Prelude.{◌≢◌, nat_lt}
+use Rattle.std.proofs.Common.{◌≡◌, ℕ, ◌<◌, [], ◌∷◌, Some, None, refl, sym, ap, ◌∙◌, subst, arith, true, false}
+use Rattle.std.specs.Prelude.{nat_lt}
 use Rattle.std.proofs.lemmas.Bool.{lt-ltb}
 use Rattle.word_base.specs.Registers.{Registers}
 use Rattle.kept_values.specs.declared.word.Word.{Word as Kept}
@@ -22,118 +22,40 @@ use Rattle.spirv_symbols.specs.declared.symbol.TypeSymbol.TheVariants as symbol
 use Rattle.spirv_symbols.specs.Contexts as context
 use Rattle.spirv_symbols.specs.Tables.{Has}
 use Rattle.spirv_emit.specs.Begun.{IsBegun}
-use Rattle.spirv_emit.specs.Blocks.{Alters, IsValue, Writes}
+use Rattle.spirv_emit.specs.Blocks.{Alters, Assigns, IsValue, Writes}
 use Rattle.spirv_emit.specs.Code.{type_of_symbol}
 use Rattle.spirv_emit.specs.Emission.{Emission, Frame, spaces_of}
 use Rattle.spirv_emit.specs.Joins.{always, joined, only}
-use Rattle.spirv_emit.specs.Lanes.{Site, IsWhole, Mirrors, IsUsed, Holds, IsArray, meaning}
-use Rattle.spirv_emit.specs.Steps.{Adds, Acts, IsPut, IsDropped, StoresTo}
+use Rattle.spirv_emit.specs.Lanes.{Site, IsWhole, Mirrors, IsUsed, IsArray, meaning}
+use Rattle.spirv_emit.specs.Steps.{Adds, Acts, IsDropped}
 use Rattle.spirv_emit.specs.Reads.{written_array}
 use Rattle.spirv_emit.specs.Values.{Slot, slot, a_word, Meaning, Gives, valued}
 use Rattle.spirv_emit.proofs.Links.{store_quiet}
 use Rattle.spirv_emit.proofs.Giving.{then', only_gives, named_gives}
-use Rattle.spirv_emit.proofs.Growth.{at_same, settled_grows}
-use Rattle.spirv_emit.proofs.Memory.{IsArraySpace, array_for, IsAt, PutsWell, puts_well, StoresWell, stored, stored_cells, writes_well, word_other, element_other, written_here}
+use Rattle.spirv_emit.proofs.Growth.{settled_grows}
+use Rattle.spirv_emit.proofs.Memory.{IsArraySpace, array_for, IsAt, stored, stored_cells, writes_well, word_other}
 use Rattle.spirv_emit.proofs.Room.{has_below}
 use Rattle.spirv_emit.proofs.RoomChains.{array_chain_gives, pointing}
 use Rattle.spirv_emit.proofs.RoomWaiting.{none_waits}
-use Rattle.spirv_emit.proofs.Stores.{there_named, store_step, stored_alters, put_alters}
+use Rattle.spirv_emit.proofs.Stores.{there_named, store_step, stored_alters, assigned_alters}
 
 -- the index of a literal
 literal_is : (z : Site) (t : Words) (k i : ℕ) → IsValue z t (term.Word k) i → k ≡ i
 literal_is z t k i e = cc e
 
--- A REGISTER'S WORD that has a variable of its own: it waits.
+-- A REGISTER'S WORD that has a variable of its own.
 pub register_alters : (a b c : Emission) (k r : ℕ) (x y : Term) → x ≡ term.Word k → a.frame.separate ≡ true → Gives a b [] (a_word r ∷ []) (valued y)
-    → IsPut b c (kept.Register k) r → Alters a c (Writes space.Temps x y)
-register_alters a b c k r x y literal separate g put =
-    put_alters a b c (kept.Register k) r (valued y) g put (Writes space.Temps x y)
+    → Assigns b c (kept.Register k) r → Alters a c (Writes space.Temps x y)
+register_alters a b c k r x y literal separate g out =
+    assigned_alters a b c (kept.Register k) r (valued y) g out (Writes space.Temps x y)
     (λ z comp t u e.
     let same : k ≡ e.0 = literal_is z t k e.0 (subst (λ l. IsValue z t l e.0) literal e.2) in
-    let used : z.frame.separate ≡ true =
-    subst (λ (f : Frame). f.separate ≡ true) (sym (put.settled.same.frame ∙ g.grows.same.frame) ∙ comp.frame) separate in (
+    let used : z.frame.separate ≡ true = subst (λ (f : Frame). f.separate ≡ true) (sym (out.grows.same.frame ∙ g.grows.same.frame) ∙ comp.frame)
+    separate in (
       e.1,
       (let v = e.4 in rw v refl),
-      subst (PutsWell z.frame (kept.Register k) e.1 (dirty_in b.kept) (dirty_in c.kept) t) (sym e.6)
-          (puts_well z.frame space.Temps e.0 e.1 (kept.Register k) (dirty_in b.kept) (dirty_in c.kept) t u.registers e.5 same used tt put.puts.still
-          put.puts.marked),
+      (used, subst (λ i. with_word t.registers space.Temps i e.1 ≡ Some u.registers) (sym same) e.5, e.6),
     ))
-
--- One that may not wait here is stored at once.
-module _ (f : Frame) (k w : ℕ) (old : List Kept) (t : Words) (r : Registers) (e : with_word t.registers space.Temps k w ≡ Some r)
-    (separate : f.separate ≡ true) where
-  other : (cells : ℕ → Option ℕ) (x : Symbol) → x ≢ symbols.Register k → Holds f cells old t x → Holds f cells old (words t.scratch r) x
-  other cells (symbols.AType a') ne a = tt
-  other cells (symbols.Constant x) ne a = tt
-  other cells symbols.True ne a = tt
-  other cells (symbols.Null n) ne a = tt
-  other cells symbols.Immediates ne a = tt
-  other cells symbols.Import ne a = tt
-  other cells symbols.Main ne a = tt
-  other cells symbols.FirstLabel ne a = tt
-  other cells (symbols.Input b) ne a = tt
-  other cells (symbols.Memory room) ne a = tt
-  other cells (symbols.Uniform slot') ne a = tt
-  other cells symbols.Push ne a = tt
-  other cells (symbols.Scratch n) ne a = a
-  other cells (symbols.Register m) ne a = λ s clean.
-      a s clean ∙ ap Some (sym (element_other t r space.Temps k w e space.Temps m (λ q z. ne (ap (λ n. symbols.Register n) z))))
-  other cells symbols.Registers ne a = λ s. absurd (cc (sym separate ∙ s))
-  other cells (symbols.Elements slot') ne a = λ i lt clean.
-      a i lt clean ∙ ap Some (sym (element_other t r space.Temps k w e (space.Indexable slot') i (λ q z. absurd (cc q))))
-  other cells symbols.ImmediateArray ne a = a
-
-  pub register_well : StoresWell f (symbols.Register k) 0 w old old t (words t.scratch r)
-  register_well = record {
-    own = λ cells a s clean. at_same cells 0 (Some w) ∙ ap Some (sym (written_here t r space.Temps k w e));
-    other = other;
-  }
-
-pub stored_register : (a b c : Emission) (k r : ℕ) (x y : Term) → x ≡ term.Word k → a.frame.separate ≡ true → Gives a b [] (a_word r ∷ []) (valued y)
-    → id_in b.kept (kept.Register k) ≡ None → StoresTo b c (symbols.Register k) r → Alters a c (Writes space.Temps x y)
-stored_register a b c k r x y literal separate g free h =
-    let v = h.variable in let m = h.mid in
-    let ptr = slot v (symbol.WordPointer storage.Function) in
-    let to = named_gives b m (symbols.Register k) v (AtLocal v 0) (symbol.WordPointer storage.Function) refl refl h.named in
-    let f = joined (valued y) [] (always (AtLocal v 0)) in
-    let both' = then' a b m [] (a_word r ∷ []) [] (ptr ∷ []) (valued y) (always (AtLocal v 0)) [] g to refl in
-    stored_alters a m c c (ptr ∷ a_word r ∷ []) f (instr 62 (v ∷ r ∷ [])) both' h.acts
-    (record { same = record { frame = refl; limit = refl; capacity = refl; limits = refl }; code = refl; symbols = refl }) refl (refl, refl)
-    (λ z comp l keeps is. (((storage.Function, is.0, refl), is.1.0), λ o i q. keeps o i (subst (λ t. id_in t o ≡ Some i) h.acts.kept q)))
-    (λ z places is. store_quiet z places v r storage.Function is.0 refl)
-    (Writes space.Temps x y)
-    (λ z comp s t u mir e.
-    let same : k ≡ e.0 = literal_is z t k e.0 (subst (λ l. IsValue z t l e.0) literal e.2) in
-    let frame : a.frame ≡ z.frame = sym (h.acts.same.frame ∙ h.named.grows.same.frame ∙ g.grows.same.frame) ∙ comp.frame in
-    let used : z.frame.separate ≡ true = subst (λ (f : Frame). f.separate ≡ true) frame separate in
-    let write : with_word t.registers space.Temps k e.1 ≡ Some u.registers = subst (λ i. with_word t.registers space.Temps i e.1 ≡ Some u.registers)
-    (sym same) e.5 in
-    let names : Has z.names (symbols.Register k) v = comp.has (symbols.Register k) v (subst (λ l. Has l.entries (symbols.Register k) v)
-    (sym h.acts.symbols) h.named.has) in (
-      AtLocal v 0 ∷ Word e.1 ∷ [],
-      (let i = e.4 in rw i refl),
-      λ s at vs mid.
-          let memory = stored s.memory v 0 e.1 in
-          let kept' : m.kept ≡ b.kept = h.named.kept in (
-            memory,
-            store_step z s comp.whole v r v 0 e.1 at vs.0 vs.1.0,
-            subst (Mirrors z c.kept (with_memory s memory)) (sym e.6)
-                (subst (λ l. Mirrors z l (with_memory s memory) (words t.scratch u.registers)) (sym h.acts.kept) (record {
-                  knows = mid.knows;
-                  ids = λ o i q us. mid.ids o i q us ∙ ap (λ n. Some (Word n)) (sym (word_other t u.registers space.Temps k e.1 write o
-                      (λ p. not_kept z.frame used m.kept o i us (subst (λ l. id_in l (kept.Register k) ≡ None) (sym kept') free) q p)));
-                  inside = mid.inside;
-                  cells = stored_cells c z (symbols.Register k) v 0 e.1 (dirty_in m.kept) (dirty_in m.kept) t (words t.scratch u.registers) s.memory
-                      comp names
-                      (register_well z.frame k e.1 (dirty_in m.kept) t u.registers write used) mid.cells;
-                })),
-          ),
-    )) where
-      not_kept : (f : Frame) → f.separate ≡ true → (l : Table) (o : Kept) (i : ℕ) → IsUsed f o → id_in l (kept.Register k) ≡ None → id_in l o ≡ Some i
-          → IsAt space.Temps k o → ⊥
-      not_kept f s l (kept.Scratch n) i us none q p = p
-      not_kept f s l (kept.Register n) i us none q p = absurd (cc (sym none ∙ (ap (λ n. id_in l (kept.Register n)) (sym p) ∙ q)))
-      not_kept f s l (kept.Element n) i us none q p = absurd (cc (sym s ∙ us p.0))
 
 -- ARRAYS. How many words the variable of a space has:
 abbrev count_of : context.Context → Space → ℕ

@@ -1,5 +1,6 @@
 mod Changing
 mod Arms
+mod Assigning
 mod Below
 mod RoomChains
 mod Declared

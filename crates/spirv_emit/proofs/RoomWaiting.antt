@@ -207,6 +207,9 @@ among_end' [] w = inl refl
 among_end' (y ∷ xs) w = inr (among_end' xs w)
 
 -- the last word that waits is no array's
-pub last_variable : (a : Emission) (w : Kept) (n id : ℕ) → IsBegun a → IsLast a.kept w id → w ≡ kept.Element n → ⊥
-last_variable a w n id h last e =
-    none_waits a.kept h.stored n (subst (λ y. Among (dirty_in a.kept) y) e (subst (λ l. Among l w) (sym last.dirty) (among_end' last.rest w)))
+pub last_variable : (a : Emission) (w : Kept) (id : ℕ) → IsBegun a → IsLast a.kept w id → HasVariable w
+last_variable a (kept.Scratch n) id h last = tt
+last_variable a (kept.Register n) id h last = tt
+last_variable a (kept.Element n) id h last =
+    none_waits a.kept h.stored n
+    (subst (λ l. Among l (kept.Element n)) (sym last.dirty) (among_end' last.rest (kept.Element n)))

@@ -2,7 +2,6 @@
 use Rattle.std.proofs.Common.{◌≡◌, ℕ, ◌+◌, ◌<◌, ◌≤◌, inl, inr, List, [], ◌∷◌, ◌++◌, length, Some, refl, sym, ap, ◌∙◌, subst, arith, length-append}
 use Rattle.std.specs.Prelude.{Ok}
 use Rattle.kept_values.specs.declared.word.Word.{Word as Kept}
-use Rattle.kept_values.specs.declared.word.Word.TheVariants as kept
 use Rattle.kept_values.specs.Tables.{Table, id_in, dirty_in, limits_in, Among, IsLast, Pops}
 use Rattle.shader_tree.specs.Values.{Words}
 use Rattle.spirv_words.specs.StorageClass as storage
@@ -10,17 +9,17 @@ use Rattle.spirv_words.specs.Text.{Instr, instr}
 use Rattle.spirv_words.specs.Values.{Word, AtLocal}
 use Rattle.spirv_words.specs.Lane.{with_memory}
 use Rattle.spirv_symbols.specs.declared.symbol.Symbol.{Symbol}
-use Rattle.spirv_symbols.specs.declared.symbol.Symbol.TheVariants as symbols
 use Rattle.spirv_symbols.specs.declared.symbol.TypeSymbol.TheVariants as symbol
 use Rattle.spirv_symbols.specs.Tables.{Has}
 use Rattle.spirv_emit.specs.Emission.{Emission, Frame, next_of}
-use Rattle.spirv_emit.specs.Begun.{IsBegun}
+use Rattle.spirv_emit.specs.Begun.{IsBegun, HasVariable}
 use Rattle.spirv_emit.specs.Code.{type_of_symbol}
 use Rattle.spirv_emit.specs.Lanes.{Site, Mirrors, IsInside, word_of, meaning}
 use Rattle.spirv_emit.specs.Growing.{Same, Grows, Completes}
 use Rattle.spirv_emit.specs.Values.{slot, Meaning, Gives, nothing, Saves}
 use Rattle.spirv_emit.specs.Joins.{given, always, joined}
 use Rattle.spirv_emit.specs.Steps.{Named, Acts, Adds, IsPopped, StoresTo}
+use Rattle.spirv_emit.proofs.Assigning.{own_type, own_meaning}
 use Rattle.spirv_emit.proofs.Links.{store_quiet}
 use Rattle.spirv_emit.proofs.Growth.{settled_grows}
 use Rattle.spirv_emit.proofs.Giving.{then', only_gives, named_gives, nothing_gives}
@@ -164,26 +163,15 @@ module _ (a p d : Emission) (w : Kept) (id : ℕ) (begun : IsBegun a) (last : Is
         save_gives a mm dd d w id v v (joined given [] (always (AtLocal v (place w)))) x refl h.named.has last
         (kept_acts h.mid d t (limits ∙ ap limits_in (sym h.named.kept)) (instr 62 (v ∷ id ∷ [])) h.acts) taken refl (λ z comp t' i. refl)
 
--- ONE WORD of each sort.
-module _ (a p d : Emission) (id : ℕ) (begun : IsBegun a) where
-  saves_by : (w : Kept) → IsLast a.kept w id → IsPopped a p w id → d.kept ≡ p.kept
-      → Gives a d [] [] nothing → Saves a d
-  saves_by w last popped kept g = record {
-    gives = g;
-    count = ap length popped.pops.dirty ∙ (length-append (dirty_in p.kept) (w ∷ []) ∙ ap (λ t. length (dirty_in t) + 1) (sym kept));
-  }
-
-  pub saves_scratch : (n : ℕ) → IsLast a.kept (kept.Scratch n) id → IsPopped a p (kept.Scratch n) id
-      → StoresTo p d (symbols.Scratch n) id → Saves a d
-  saves_scratch n last popped h =
-      saves_by (kept.Scratch n) last popped (h.acts.kept ∙ h.named.kept)
-      (saved_to a p d (kept.Scratch n) id begun last popped (h.acts.kept ∙ h.named.kept) h refl refl)
-
-  pub saves_register : (k : ℕ) → IsLast a.kept (kept.Register k) id → IsPopped a p (kept.Register k) id
-      → StoresTo p d (symbols.Register k) id → Saves a d
-  saves_register k last popped h =
-      saves_by (kept.Register k) last popped (h.acts.kept ∙ h.named.kept)
-      (saved_to a p d (kept.Register k) id begun last popped (h.acts.kept ∙ h.named.kept) h refl refl)
+-- ONE WORD.
+pub word_saves : (a p d : Emission) (w : Kept) (id : ℕ) → IsBegun a → HasVariable w → IsLast a.kept w id → IsPopped a p w id
+    → StoresTo p d (variable w) id → Saves a d
+word_saves a p d w id begun own last popped h =
+    let kept = h.acts.kept ∙ h.named.kept in
+    record {
+      gives = saved_to a p d w id begun last popped kept h (own_meaning w h.variable own) (own_type p.frame.context w own);
+      count = ap length popped.pops.dirty ∙ (length-append (dirty_in p.kept) (w ∷ []) ∙ ap (λ t. length (dirty_in t) + 1) (sym kept));
+    }
 
 -- NO CODE, and one piece behind another, that give nothing.
 pub nothing_from : (a : Emission) → Gives a a [] [] nothing

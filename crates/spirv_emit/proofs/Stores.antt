@@ -1,11 +1,11 @@
 -- One instruction behind a piece of code: without a result, or with one that is an answer.
 use Rattle.std.proofs.Common.{◌≡◌, ℕ, ◌+◌, ◌<◌, ⊎_elim, inl, inr, List, [], ◌∷◌, ◌++◌, length, Option, Some, refl, sym, ap, ◌∙◌, subst, arith, length-append, append-nil}
 use Rattle.std.specs.Prelude.{slice_get, Ok, map, IsTrue}
-use Rattle.word_base.specs.Lanes.{Silent, Asks}
+use Rattle.word_base.specs.Lanes.{Goes, Silent, Asks}
 use Rattle.word_base.specs.declared.event.Event.{Event}
 use Rattle.kept_values.specs.declared.word.Word.{Word as Kept}
 use Rattle.kept_values.specs.declared.word.Word.TheVariants as kept
-use Rattle.kept_values.specs.Tables.{Table, id_in, dirty_in, Puts}
+use Rattle.kept_values.specs.Tables.{Table, id_in, Puts}
 use Rattle.shader_tree.specs.Values.{Words}
 use Rattle.shader_tree.specs.Lane.{with_scratch}
 use Rattle.shader_tree.specs.Shape.{Item}
@@ -21,20 +21,20 @@ use Rattle.spirv_symbols.specs.declared.entry.Entry.{Entry}
 use Rattle.spirv_symbols.specs.Tables.{Has}
 use Rattle.spirv_emit.specs.Emission.{Emission, next_of}
 use Rattle.spirv_emit.specs.Code.{In, Typed, typed, typed_result, values, IsPlain, ArePlain, behind, IsOf, IsTyped, Covers, CoversKept}
-use Rattle.spirv_emit.specs.Lanes.{Site, IsWhole, Mirrors, Stands}
+use Rattle.spirv_emit.specs.Lanes.{Site, IsWhole, Mirrors, HasAt, Stands}
 use Rattle.spirv_emit.specs.Growing.{Grows, Completes, globals_in}
 use Rattle.spirv_emit.specs.Linked.{IsLinked, StandsIn}
 use Rattle.spirv_emit.specs.ModuleShape.{Seen, marks_of, shape_of}
 use Rattle.spirv_emit.specs.Values.{Slot, slot, AreValues, AreKnown, HaveClasses, Runs, Knowing, Quiet, Meaning, Gives, nothing}
-use Rattle.spirv_emit.specs.Steps.{Named, Adds, Acts, Settled, IsPut}
-use Rattle.spirv_emit.specs.Blocks.{Change, Alters, Meets}
+use Rattle.spirv_emit.specs.Steps.{Named, Adds, Acts, Settled}
+use Rattle.spirv_emit.specs.Blocks.{Change, Becomes, Alters, Assigns, Meets}
 use Rattle.spirv_emit.proofs.Links as links
-use Rattle.spirv_emit.proofs.Links.{shape_one}
+use Rattle.spirv_emit.proofs.Links.{quiet_both, shape_append, shape_one}
 use Rattle.spirv_emit.proofs.Lists.{code_back, each_append, behind_append, typed_append}
-use Rattle.spirv_emit.proofs.Growth.{grows_on, completes_back, apart, settled_grows, add_grows, all_one, at_same, runs_on, stands_front, one_defines}
-use Rattle.spirv_emit.proofs.Giving.{mirrors_value, plain_behind, ok_same}
+use Rattle.spirv_emit.proofs.Growth.{grows_on, completes_back, apart, settled_grows, add_grows, all_one, at_same, goes_join, runs_on, stands_front, stands_back, one_defines}
+use Rattle.spirv_emit.proofs.Giving.{mirrors_value, plain_behind, covers_stays, ok_same}
 use Rattle.spirv_emit.proofs.Forms.{acts}
-use Rattle.spirv_emit.proofs.Memory.{stored, kept_differ, some_same, PutsWell, put_mirrors, sets_well}
+use Rattle.spirv_emit.proofs.Memory.{stored, kept_differ, some_same}
 
 -- a symbol that is there
 pub there_named : (e : Emission) (s : Symbol) (r : ℕ) → Has e.symbols.entries s r → r < next_of e → Named e e s r
@@ -226,12 +226,23 @@ module _ (a b c : Emission) (rs : List Slot) (f : Meaning) (i : Instr) (x : Give
           omega (arith, length-append x.seg (i ∷ [])),
           p.runs.goes,
           q.1.2 p.to p.at p.values,
-          λ answer lt. record {
-            place = omega (arith, p.runs.place, length-append x.seg (i ∷ []));
-            mirrors = subst (Mirrors z c.kept (goes_to p.to (p.to.place + 1))) (sym (ap (λ (g : ℕ → Words). g answer) q.0))
-                (subst (λ k. Mirrors z k (goes_to p.to (p.to.place + 1)) t) (sym act.kept)
-                (record { knows = p.mirrors.knows; ids = p.mirrors.ids; inside = p.mirrors.inside; cells = p.mirrors.cells }));
-          },
+          λ answer lt.
+              let to = goes_to p.to (p.to.place + 1) in
+              let place : to.place ≡ s.place + length (x.seg ++ i ∷ []) = omega (arith, p.runs.place, length-append x.seg (i ∷ [])) in
+              record {
+                front = x.seg ++ i ∷ [];
+                back = [];
+                parts = sym (append-nil (x.seg ++ i ∷ []));
+                place = place;
+                to = to;
+                goes = refl;
+                behind = record {
+                  place = place;
+                  mirrors = subst (Mirrors z c.kept to) (sym (ap (λ (g : ℕ → Words). g answer) q.0))
+                      (subst (λ k. Mirrors z k to t) (sym act.kept)
+                      (record { knows = p.mirrors.knows; ids = p.mirrors.ids; inside = p.mirrors.inside; cells = p.mirrors.cells }));
+                };
+              },
         );
   }
 
@@ -244,49 +255,74 @@ put_covers names a b w r k l h keeps more is y id q =
     (λ (e : y ≡ w). let same : r ≡ id = some_same (sym h.here ∙ (ap (id_in b) (sym e) ∙ q)) in subst (IsOf names l symbol.Word) same is)
     (λ d. let o = keeps y id (sym (h.other y d) ∙ q) in (o.0, o.1, more (typed id o.0) o.2)) (kept_differ y w)
 
-module _ (a b c : Emission) (w : Kept) (r : ℕ) (f : Meaning) (x : Gives a b [] (slot r symbol.Word ∷ []) f) (put : IsPut b c w r) where
-  pub put_alters : (E : Change)
-      → ((z : Site) → Completes c z → (t u : Words) → E z t u
-      → (n : ℕ) × (f z t [] ≡ Ok (Word n ∷ [])) × PutsWell z.frame w n (dirty_in b.kept) (dirty_in c.kept) t u)
-      → Alters a c E
-  put_alters E eff =
-      let g = settled_grows b c put.settled in
-      let all : Grows a c x.seg = subst (Grows a c) (append-nil x.seg) (grows_on a b c x.seg [] x.grows g) in
-      record {
-        seg = x.seg;
-        grows = all;
-        plain = x.plain;
-        known = λ z comp gl k cover keeps.
-            let p = x.known z (completes_back b c [] z g comp) gl k cover keeps tt in
-            record {
-              typed = p.typed;
-              kept = put_covers z.names b.kept c.kept w r (behind gl k x.seg) (behind gl k x.seg) put.puts p.kept
-                  (λ y i. i) p.results.0;
-              results = tt;
-            };
-        quiet = λ z places comp linked here. (x.quiet z places (completes_back b c [] z g comp) linked here tt).none;
-        law = λ z comp s t u st e.
-            let q = eff z comp t u e in
-            let o = x.law z (completes_back b c [] z g comp) tt s t [] (Word q.0 ∷ []) st tt q.1 in (
-              o.to,
-              o.runs.goes,
-              record {
-                place = o.runs.place;
-                mirrors = put_mirrors z b.kept c.kept w r q.0 o.to t u put.puts q.2 o.values.0
-                    o.mirrors;
-              },
-            );
-      }
+-- A WORD OF THE LANE is the value of a piece of code.
+module _ (a b c : Emission) (w : Kept) (r : ℕ) (f : Meaning) (x : Gives a b [] (slot r symbol.Word ∷ []) f) (y : Assigns b c w r) where
+  pub assigned_alters : (E : Change)
+      → ((z : Site) → Completes c z → (t u : Words) → E z t u → (n : ℕ) × (f z t [] ≡ Ok (Word n ∷ [])) × Becomes z.frame w n t u) → Alters a c E
+  assigned_alters E eff = record {
+    seg = x.seg ++ y.seg;
+    grows = grows_on a b c x.seg y.seg x.grows y.grows;
+    plain = each_append IsPlain x.seg y.seg x.plain y.plain;
+    known = λ z comp gl k cover keeps.
+        let p = x.known z (completes_back b c y.seg z y.grows comp) gl k cover keeps tt in
+        let q = y.known z comp gl (behind gl k x.seg) (covers_stays z.names z.frame.context gl k x.seg x.plain cover) p.kept p.results.0 in
+        record {
+          typed = typed_append z.names gl k x.seg y.seg p.typed q.typed;
+          kept = subst (CoversKept z.names c.kept) (sym (behind_append gl k x.seg y.seg)) q.kept;
+          results = tt;
+        };
+    quiet = λ z places comp linked here.
+        quiet_both z.machine.code places x.seg y.seg
+        (x.quiet z places (completes_back b c y.seg z y.grows comp) linked (links.stands_front z x.seg y.seg here) tt).none
+        (y.quiet z places comp linked (links.stands_back z x.seg y.seg here));
+    law = λ z comp s t u st e.
+        let q = eff z comp t u e in
+        let o = x.law z (completes_back b c y.seg z y.grows comp) tt s t [] (Word q.0 ∷ []) (stands_front z x.seg y.seg a.kept s t st) tt q.1 in
+        let p = y.law z comp o.to t u q.0 (stands_back z x.seg y.seg a.kept b.kept s o.to t st o.runs o.mirrors) o.values.0 q.2 in (
+          p.0,
+          subst (λ n. Goes (step z.machine) n s p.0) (sym (length-append x.seg y.seg))
+              (goes_join (step z.machine) (length x.seg) (length y.seg) s o.to p.0 o.runs.goes p.1),
+          record { place = omega (arith, o.runs.place, p.2.place, length-append x.seg y.seg); mirrors = p.2.mirrors },
+        );
+  }
 
--- AN EVENT whose answer is a scratch word that waits.
+-- AN EVENT whose answer becomes a scratch word.
 module _ (a b c d : Emission) (rs : List Slot) (f : Meaning) (i : Instr) (r type n : ℕ) (x : Gives a b [] rs f) (add : Adds b c i r)
-    (put : IsPut c d (kept.Scratch n) r)
+    (y : Assigns c d (kept.Scratch n) r)
     (one : typed_result i ≡ typed r type ∷ []) (plain : IsPlain i) (has : Has b.symbols.entries (AType symbol.Word) type)
     (takes : (z : Site) → Completes b z → (k : List Typed) → AreKnown z.names k rs → IsTyped z.names k i) (item : Item)
     (seen : (z : Site) (places : Places) → Completes b z → IsLinked z places → StandsIn z x.seg → HaveClasses z.machine.code rs
     → marks_of z.machine.code places i ≡ Seen item ∷ []) where
-  answered : Grows b d (i ∷ [])
-  answered = grows_on b c d (i ∷ []) [] (add_grows b c i r type one add) (settled_grows c d put.settled)
+  abbrev front : List Instr
+  front = x.seg ++ i ∷ []
+
+  answered : Grows b c (i ∷ [])
+  answered = add_grows b c i r type one add
+
+  front_plain : ArePlain front
+  front_plain = all_plain a b c rs f i x answered plain
+
+  -- the answer is known behind the event
+  answer_known : (z : Site) → Completes c z → (gl k : List Typed) → IsOf z.names (behind gl k front) symbol.Word r
+  answer_known z comp gl k =
+      let same : behind gl k front ≡ typed r type ∷ behind gl k x.seg =
+      behind_append gl k x.seg (i ∷ [])
+      ∙ (plain_behind gl (behind gl k x.seg) i plain ∙ ap (λ l. l ++ behind gl k x.seg) one) in (
+        type,
+        (completes_back b c (i ∷ []) z answered comp).has (AType symbol.Word) type has,
+        subst (λ l. In l (typed r type)) (sym same) (inl refl),
+      )
+
+  -- so are the words that are kept
+  front_known : (z : Site) → Completes c z → (gl k : List Typed) → Covers z.names z.frame.context k → CoversKept z.names a.kept k
+      → Knowing z.names gl k front c.kept []
+  front_known z comp gl k cover keeps =
+      knowing a b c rs f i x answered plain z comp gl k cover keeps
+      (λ k keeps is. (
+        takes z (completes_back b c (i ∷ []) z answered comp) k is,
+        subst (λ l. CoversKept z.names c.kept (l ++ k)) (sym one)
+            (λ w id q. let o = keeps w id (subst (λ t. id_in t w ≡ Some id) add.kept q) in (o.0, o.1, inr o.2)),
+      ))
 
   pub answer_meets : (E : Site → Words → Event → (ℕ → Words) → Type 0)
       → ((z : Site) → Completes b z → (t : Words) (e : Event) (u : ℕ → Words) → E z t e u
@@ -294,44 +330,61 @@ module _ (a b c d : Emission) (rs : List Slot) (f : Meaning) (i : Instr) (r type
       → AreValues s.values rs vs → step z.machine s ≡ Asks e (λ answer. with_value s r (Word answer)))))
       → Meets a d item E
   answer_meets E eff = record {
-    seg = x.seg ++ i ∷ [];
-    grows = grown a b d rs f i x answered;
-    plain = all_plain a b d rs f i x answered plain;
-    known = λ z comp gl k cover keeps. knowing a b d rs f i x answered plain z comp gl k cover keeps
-        (λ k keeps is.
-        let back = completes_back b d (i ∷ []) z answered comp in (
-          takes z back k is,
-          subst (λ l. CoversKept z.names d.kept (l ++ k)) (sym one)
-              (put_covers z.names c.kept d.kept (kept.Scratch n) r k (typed r type ∷ k) put.puts
-              (subst (λ t. CoversKept z.names t k) (sym add.kept) keeps) (λ y i. inr i)
-              (type, back.has (AType symbol.Word) type has, inl refl)),
-        ));
+    seg = front ++ y.seg;
+    grows = grows_on a c d front y.seg (grown a b c rs f i x answered) y.grows;
+    plain = each_append IsPlain front y.seg front_plain y.plain;
+    known = λ z comp gl k cover keeps.
+        let mid = completes_back c d y.seg z y.grows comp in
+        let p = front_known z mid gl k cover keeps in
+        let q = y.known z comp gl (behind gl k front) (covers_stays z.names z.frame.context gl k front front_plain cover) p.kept
+        (answer_known z mid gl k) in
+        record {
+          typed = typed_append z.names gl k front y.seg p.typed q.typed;
+          kept = subst (CoversKept z.names d.kept) (sym (behind_append gl k front y.seg)) q.kept;
+          results = tt;
+        };
     shows = λ z places comp linked here.
-        let back = completes_back b d (i ∷ []) z answered comp in
-        let q = in_front_of a b d rs f i x answered z places comp linked here in
-        shape_one z.machine.code places x.seg i (Seen item ∷ []) q.none
-        (seen z places back linked (links.stands_front z x.seg (i ∷ []) here) q.classes);
+        let mid = completes_back c d y.seg z y.grows comp in
+        let at_front = links.stands_front z front y.seg here in
+        let q = in_front_of a b c rs f i x answered z places mid linked at_front in
+        let event = shape_one z.machine.code places x.seg i (Seen item ∷ []) q.none
+        (seen z places (completes_back b c (i ∷ []) z answered mid) linked (links.stands_front z x.seg (i ∷ []) at_front) q.classes) in
+        shape_append z.machine.code places front y.seg
+        ∙ (ap (λ l. l ++ shape_of z.machine.code places y.seg) event
+        ∙ ap (λ l. Seen item ∷ l) (y.quiet z places comp linked (links.stands_back z front y.seg here)));
     law = λ z comp s t e u st h.
-        let back = completes_back b d (i ∷ []) z answered comp in
-        let q = eff z back t e u h in
-        let p = before a b d rs f i x answered z comp s t q.1.0 st q.1.1 in (
+        let mid = completes_back c d y.seg z y.grows comp in
+        let q = eff z (completes_back b c (i ∷ []) z answered mid) t e u h in
+        let p = before a b c rs f i x answered z mid s t q.1.0 (stands_front z front y.seg a.kept s t st) q.1.1 in (
           length x.seg,
           p.to,
           (λ answer. with_value p.to r (Word answer)),
-          omega (arith, length-append x.seg (i ∷ [])),
+          omega (arith, length-append x.seg (i ∷ []), length-append front y.seg),
           p.runs.goes,
           q.1.2 p.to p.at p.values,
           λ answer lt.
-              let to = with_value p.to r (Word answer) in
-              let mid : Mirrors z b.kept to t = mirrors_value z b.kept p.to t r (Word answer)
-              (λ y id k e. apart b d (i ∷ []) z y id answered comp k (one_defines i r type id one (sym e)))
+              let from = with_value p.to r (Word answer) in
+              let place : from.place ≡ s.place + length front = omega (arith, p.runs.place, length-append x.seg (i ∷ [])) in
+              let new : Mirrors z b.kept from t = mirrors_value z b.kept p.to t r (Word answer)
+              (λ y id k e. apart b c (i ∷ []) z y id answered mid k (one_defines i r type id one (sym e)))
               (λ y id k e. let lt = add.kept_below y id k in absurd (omega (arith, lt, e, add.result))) p.mirrors in
+              let o = y.law z comp from t (with_scratch t n answer) answer
+              (record {
+                here = subst (λ q. HasAt z.machine.code q y.seg) (sym place) (code_back z.machine.code s.place front y.seg st.here);
+                mirrors = subst (λ k. Mirrors z k from t) (sym add.kept) new;
+                words = st.words;
+              }) (at_same p.to.values r (Some (Word answer))) refl in
               record {
-                place = omega (arith, p.runs.place, length-append x.seg (i ∷ []));
-                mirrors = subst (Mirrors z d.kept to) (sym (ap (λ (g : ℕ → Words). g answer) q.0))
-                    (put_mirrors z c.kept d.kept (kept.Scratch n) r answer to t (with_scratch t n answer) put.puts
-                    (sets_well z.frame n answer (dirty_in c.kept) (dirty_in d.kept) t put.puts.still put.puts.marked)
-                    (at_same p.to.values r (Some (Word answer))) (subst (λ k. Mirrors z k to t) (sym add.kept) mid));
+                front = front;
+                back = y.seg;
+                parts = refl;
+                place = place;
+                to = o.0;
+                goes = o.1;
+                behind = record {
+                  place = omega (arith, o.2.place, place, length-append front y.seg);
+                  mirrors = subst (Mirrors z d.kept o.0) (sym (ap (λ (g : ℕ → Words). g answer) q.0)) o.2.mirrors;
+                };
               },
         );
   }

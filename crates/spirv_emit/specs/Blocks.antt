@@ -1,6 +1,6 @@
 -- What the code of statements does in each finished module that completes it, and what the code at the ends of blocks
 -- is.
-use Rattle.std.specs.Prelude.{◌≡◌, ℕ, ◌+◌, ◌*◌, ◌<◌, ◌≤◌, ◌^◌, if◌then◌else◌, Bool, List, [], ◌∷◌, length, Some, Ok}
+use Rattle.std.specs.Prelude.{◌≡◌, ℕ, ◌+◌, ◌*◌, ◌<◌, ◌≤◌, ◌^◌, if◌then◌else◌, Bool, true, List, [], ◌∷◌, ◌++◌, length, Some, Ok}
 use Rattle.word_base.specs.declared.event.Act.{Act}
 use Rattle.word_base.specs.declared.event.Classes.{Classes}
 use Rattle.word_base.specs.declared.event.Event.{Event}
@@ -8,8 +8,11 @@ use Rattle.word_base.specs.declared.event.Event.TheVariants as event
 use Rattle.word_base.specs.declared.event.Room.{Room}
 use Rattle.word_base.specs.declared.event.Scope.{Scope}
 use Rattle.word_base.specs.Lanes.{Goes, Asks}
+use Rattle.kept_values.specs.declared.word.Word.{Word as Kept}
+use Rattle.kept_values.specs.declared.word.Word.TheVariants as kept
 use Rattle.kept_values.specs.Tables.{Table, IsEmpty}
 use Rattle.shader_tree.specs.declared.node.Space.{Space}
+use Rattle.shader_tree.specs.declared.node.Space.TheVariants as space
 use Rattle.shader_tree.specs.Shape.{Item}
 use Rattle.shader_tree.specs.Terms.{Term}
 use Rattle.shader_tree.specs.Values.{Words, words, word, value, size_of}
@@ -18,9 +21,11 @@ use Rattle.spirv_words.specs.Operations.{number_of, OpBranch, OpBranchConditiona
 use Rattle.spirv_words.specs.Globals.{Places}
 use Rattle.spirv_words.specs.Text.{Instr, instruction}
 use Rattle.spirv_words.specs.Memory.{takes_stores}
+use Rattle.spirv_words.specs.Values.{Word}
 use Rattle.spirv_words.specs.Lane.{State, step}
-use Rattle.spirv_emit.specs.Emission.{Emission, spaces_of}
-use Rattle.spirv_emit.specs.Code.{Typed, ArePlain, Covers, CoversKept}
+use Rattle.spirv_symbols.specs.declared.symbol.TypeSymbol.TheVariants as symbol
+use Rattle.spirv_emit.specs.Emission.{Emission, Frame, spaces_of}
+use Rattle.spirv_emit.specs.Code.{Typed, ArePlain, IsOf, Covers, CoversKept}
 use Rattle.spirv_emit.specs.Lanes.{Site, Mirrors, Stands}
 use Rattle.spirv_emit.specs.Growing.{Grows, Completes}
 use Rattle.spirv_emit.specs.Linked.{IsLinked, StandsIn}
@@ -48,8 +53,40 @@ pub record Alters (old new : Emission) (E : Change) : Type 0 where
   pub law : (z : Site) → Completes new z → (s : State) (t u : Words) → Stands z seg old.kept s t → E z t u
       → (to : State) × Goes (step z.machine) (length seg) s to × Behind z seg new.kept s to u
 
+-- A WORD OF THE LANE WITH A VARIABLE OF ITS OWN becomes that word.
+abbrev pub Becomes : Frame → Kept → ℕ → Words → Words → Type 0
+Becomes f (kept.Scratch n) w t u = u ≡ with_scratch t n w
+Becomes f (kept.Register k) w t u =
+    (f.separate ≡ true) × (with_word t.registers space.Temps k w ≡ Some u.registers) × (u ≡ words t.scratch u.registers)
+Becomes f (kept.Element n) w t u = ⊥
+
+-- Code of one block was added, maybe none, behind which the word of the lane is the id's word.
+pub record Assigns (old new : Emission) (k : Kept) (id : ℕ) : Type 0 where
+  pub seg : List Instr
+  pub grows : Grows old new seg
+  pub plain : ArePlain seg
+  pub known : (z : Site) → Completes new z → (globals known : List Typed) → Covers z.names z.frame.context known
+      → CoversKept z.names old.kept known → IsOf z.names known symbol.Word id
+      → Knowing z.names globals known seg new.kept []
+  pub quiet : (z : Site) (places : Places) → Completes new z → IsLinked z places → StandsIn z seg
+      → shape_of z.machine.code places seg ≡ []
+  pub law : (z : Site) → Completes new z → (s : State) (t u : Words) (w : ℕ) → Stands z seg old.kept s t
+      → s.values id ≡ Some (Word w) → Becomes z.frame k w t u
+      → (to : State) × Goes (step z.machine) (length seg) s to × Behind z seg new.kept s to u
+
+-- The lane stands inside the code, which it began at s, and comes silently behind it, where it mirrors these words.
+pub record ComesBehind (z : Site) (seg : List Instr) (table : Table) (s from : State) (t : Words) : Type 0 where
+  pub front : List Instr
+  pub back : List Instr
+  pub parts : seg ≡ front ++ back
+  pub place : from.place ≡ s.place + length front
+  pub to : State
+  pub goes : Goes (step z.machine) (length back) from to
+  pub behind : Behind z seg table s to t
+
 -- STATEMENTS WITH AN EVENT. Code of one block was added in which the lane comes silently to the event, inside it, and
--- behind its answer the words are changed so. The event is that item of the module's shape.
+-- from its answer silently behind the code, where the words are changed so. The event is that item of the module's
+-- shape.
 pub record Meets (old new : Emission) (item : Item) (E : Site → Words → Event → (ℕ → Words) → Type 0) : Type 0 where
   pub seg : List Instr
   pub grows : Grows old new seg
@@ -62,7 +99,7 @@ pub record Meets (old new : Emission) (item : Item) (E : Site → Words → Even
       → Stands z seg old.kept s t → E z t e u
       → (n : ℕ) × (to : State) × (after : ℕ → State) × (n ≤ length seg) × Goes (step z.machine) n s to
       × (step z.machine to ≡ Asks e after)
-      × ((answer : ℕ) → answer < 2 ^ 32 → Behind z seg new.kept s (after answer) (u answer))
+      × ((answer : ℕ) → answer < 2 ^ 32 → ComesBehind z seg new.kept s (after answer) (u answer))
 
 -- the word of an expression in a finished module
 abbrev pub IsValue : Site → Words → Term → ℕ → Type 0

@@ -1,7 +1,5 @@
 //! Atomics.
 ghost use Rattle.std.specs.Prelude.{◌≡◌, ◌+◌, ◌<◌, ◌≤◌, [], ◌∷◌, IsTrue};
-ghost use Rattle.kept_values.specs.Tables.{holds, limits_in};
-ghost use Rattle.kept_values.specs.declared.word.Word.TheVariants.{Scratch};
 ghost use Rattle.shader_tree.specs.Nodes.{has, a_word as the_word};
 ghost use Rattle.shader_tree.specs.Shape.{Changes as ChangesRoom};
 ghost use Rattle.shader_tree.specs.Terms.{term_at, Atomic as Acting};
@@ -91,7 +89,6 @@ impl Emitter {
         requires one { IsOne kind }
         requires index { IsTrue (has tree.now.nodes (the_word index)) }
         requires first { IsTrue (has tree.now.nodes (the_word a)) }
-        requires held { IsTrue (holds (limits_in self.old.kept) (Scratch scratch)) }
         requires ready { IsReady self.old (Acting scratch room (term_at tree.now.nodes index) kind
             (term_at tree.now.nodes a) (term_at tree.now.nodes b)) }
         ensures meets { Meets self.old self.new (ChangesRoom room kind)
@@ -105,7 +102,7 @@ impl Emitter {
         let first = self.emit_word(tree, a);
         let pointer = self.room_pointer(room, at);
         let word = self.change(kind, pointer, first);
-        self.put(Word::Scratch(scratch), word);
+        self.assign(Word::Scratch(scratch), word);
     }
 
     /// `atomic` that compares.
@@ -113,7 +110,6 @@ impl Emitter {
         requires index { IsTrue (has tree.now.nodes (the_word index)) }
         requires first { IsTrue (has tree.now.nodes (the_word a)) }
         requires second { IsTrue (has tree.now.nodes (the_word b)) }
-        requires held { IsTrue (holds (limits_in self.old.kept) (Scratch scratch)) }
         requires ready { IsReady self.old (Acting scratch room (term_at tree.now.nodes index) Act.CompareExchange
             (term_at tree.now.nodes a) (term_at tree.now.nodes b)) }
         ensures meets { Meets self.old self.new (ChangesRoom room Act.CompareExchange)
@@ -128,7 +124,7 @@ impl Emitter {
         let second = self.emit_word(tree, b);
         let pointer = self.room_pointer(room, at);
         let word = self.exchange(pointer, first, second);
-        self.put(Word::Scratch(scratch), word);
+        self.assign(Word::Scratch(scratch), word);
     }
 
     /// Changes the word of a room at an index in one step, an event, and gives the word that was there to a scratch
@@ -146,7 +142,6 @@ impl Emitter {
         requires index { IsTrue (has tree.now.nodes (the_word index)) }
         requires first { IsTrue (has tree.now.nodes (the_word a)) }
         requires second { IsTrue (has tree.now.nodes (the_word b)) }
-        requires held { IsTrue (holds (limits_in self.old.kept) (Scratch scratch)) }
         requires ready { IsReady self.old (Acting scratch room (term_at tree.now.nodes index) kind
             (term_at tree.now.nodes a) (term_at tree.now.nodes b)) }
         ensures meets { Meets self.old self.new (ChangesRoom room kind)

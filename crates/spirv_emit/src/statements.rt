@@ -1,7 +1,5 @@
 //! Statements.
 ghost use Rattle.std.specs.Prelude.{◌≡◌, ◌<◌, [], ◌∷◌, IsTrue};
-ghost use Rattle.kept_values.specs.Tables.{holds, limits_in};
-ghost use Rattle.kept_values.specs.declared.word.Word.TheVariants.{Scratch};
 ghost use Rattle.shader_tree.specs.Nodes.{has, a_word as the_word};
 ghost use Rattle.shader_tree.specs.Shape.{Loads as LoadsRoom, Stores as StoresRoom};
 ghost use Rattle.shader_tree.specs.Terms.{term_at, Set, Load as Loading, Store as Storing};
@@ -27,22 +25,20 @@ impl Emitter {
         self.emit_expression(tree, id)
     }
 
-    /// Gives a scratch word the value of an expression. No code stores it yet.
+    /// Gives a scratch word the value of an expression.
     pub fn set(&mut self, tree: &Tree, scratch: u32, value: u32)
         requires word { IsTrue (has tree.now.nodes (the_word value)) }
-        requires held { IsTrue (holds (limits_in self.old.kept) (Scratch scratch)) }
         requires ready { IsReady self.old (Set scratch (term_at tree.now.nodes value)) }
         ensures alters { Alters self.old self.new (Sets scratch (term_at tree.now.nodes value)) }
         ensures spends { Spends self.old self.new (Set scratch (term_at tree.now.nodes value)) }
     {
         let word = self.emit_word(tree, value);
-        self.put(Word::Scratch(scratch), word);
+        self.assign(Word::Scratch(scratch), word);
     }
 
     /// Loads the word of a room at an index, an event, into a scratch word. The index must be inside.
     pub fn load(&mut self, tree: &Tree, scratch: u32, room: Room, index: u32)
         requires index { IsTrue (has tree.now.nodes (the_word index)) }
-        requires held { IsTrue (holds (limits_in self.old.kept) (Scratch scratch)) }
         requires ready { IsReady self.old (Loading scratch room (term_at tree.now.nodes index)) }
         ensures meets { Meets self.old self.new (LoadsRoom room) (Loads scratch room (term_at tree.now.nodes index)) }
         ensures spends { Spends self.old self.new (Loading scratch room (term_at tree.now.nodes index)) }
@@ -51,7 +47,7 @@ impl Emitter {
         let pointer = self.room_pointer(room, at);
         let type_id = self.word_type();
         let word = self.value(op::LOAD, type_id, &[pointer]);
-        self.put(Word::Scratch(scratch), word);
+        self.assign(Word::Scratch(scratch), word);
     }
 
     /// Stores the value of an expression to the word of a room at an index, an event. The index must be inside.

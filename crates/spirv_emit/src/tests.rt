@@ -1,6 +1,4 @@
 ghost use Rattle.std.specs.Prelude.{◌≡◌, ◌≤◌, IsTrue};
-ghost use Rattle.kept_values.specs.Tables.{holds, limits_in};
-ghost use Rattle.kept_values.specs.declared.word.Word.TheVariants.{Scratch};
 ghost use Rattle.shader_tree.specs.Nodes.{has, a_word as the_word};
 ghost use Rattle.shader_tree.specs.Costs.{words_in, ids_in};
 ghost use Rattle.shader_tree.specs.Terms.{term_at, Set};
@@ -25,7 +23,6 @@ fn writes(
     requires unsaid { IsUnsaid emitter.old.frame }
     requires ids { emitter.old.symbols.limit ≡ 100 }
     requires words { emitter.old.code.capacity ≡ 500 }
-    requires held { IsTrue (holds (limits_in emitter.old.kept) (Scratch 0)) }
     requires word { IsTrue (has tree.now.nodes (the_word value)) }
     requires names { (e : Emission) → Names e (Set 0 (term_at tree.now.nodes value)) }
     requires cost { words_in (Set 0 (term_at tree.now.nodes value)) ≤ 200 }
@@ -33,7 +30,6 @@ fn writes(
     requires constants { constants.old.capacity ≡ 100 }
     ensures ids { emitter.new.symbols.limit ≡ 100 }
     ensures words { emitter.new.code.capacity ≡ 500 }
-    ensures held { IsTrue (holds (limits_in emitter.new.kept) (Scratch 0)) }
     ensures constants { constants.new.capacity ≡ 100 }
 {
     emitter.start();
@@ -86,7 +82,8 @@ const MODULE: [u32; 128] = [
 ];
 
 /// New constants come as 9, 7 and 9 again: they are listed in ascending order, and those of 9 have one id. Behind
-/// another module, that of 7 alone, the words of the first come again.
+/// another module, that of 7 alone, the words of the first come again. They come too where no scratch word has a place
+/// among those that wait: the store is then behind the value, at once.
 #[test]
 fn constants_ascend_in_each_module(rt: HostRuntime) -> Result<(), Fail> {
     let mut tree = Tree::make(rt.alloc(), 4)?;
@@ -113,6 +110,16 @@ fn constants_ascend_in_each_module(rt: HostRuntime) -> Result<(), Fail> {
     emitter.clear();
     assert!(rt; !writes(&mut emitter, &tree, seven, &mut constants, &MODULE));
     emitter.clear();
+    assert!(rt; writes(&mut emitter, &tree, whole, &mut constants, &MODULE));
+    let sizes = Sizes {
+        ids: 100,
+        words: 500,
+        declared: 0,
+        buffers: 0,
+        scratch: 0,
+        registers: 0,
+    };
+    let mut emitter = Emitter::make(rt.alloc(), sizes)?;
     assert!(rt; writes(&mut emitter, &tree, whole, &mut constants, &MODULE));
     Ok(())
 }

@@ -29,14 +29,7 @@ impl Emitter {
         match tree.expr_at(index) {
             Expr::Word(k) => {
                 let word = self.emit_word(tree, value);
-                if self.kept.holds(Word::Register(k)) {
-                    self.put(Word::Register(k), word);
-                    return;
-                }
-                match self.kept.find(Word::Register(k)) {
-                    Some(_) => unreachable!(),
-                    None => self.store_to(Symbol::Register(k), word),
-                }
+                self.assign(Word::Register(k), word);
             },
             _ => unreachable!(),
         }

@@ -33,9 +33,9 @@ pub returns-clause-meets : goal.returns-clause-meets
 returns-clause-meets c =
     let ns = c.args.tree.now.nodes in let k = c.change-word.ensures.changes in
     change_meets c.args.self.now c.emit_word-at.new.self c.emit_word-first.new.self c.room_pointer-pointer.new.self c.change-word.new.self
-    c.put.new.self c.args.scratch
+    c.assign.new.self c.args.scratch
     c.emit_word-at.result c.emit_word-first.result c.room_pointer-pointer.result k.device k.unordered c.change-word.result k.type' c.args.room
     c.args.kind
     (term_at ns c.args.index) (term_at ns c.args.a) (term_at ns c.args.b) c.room_pointer-pointer.ensures.begun c.emit_word-at.ensures.gives
     c.emit_word-first.ensures.gives
-    c.room_pointer-pointer.ensures.points k.typed k.one k.none c.requires.one k.adds c.put.ensures.put
+    c.room_pointer-pointer.ensures.points k.typed k.one k.none c.requires.one k.adds c.assign.ensures.assigns

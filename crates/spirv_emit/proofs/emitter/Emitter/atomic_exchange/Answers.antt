@@ -46,9 +46,9 @@ returns-clause-meets c =
     let ns = c.args.tree.now.nodes in let k = c.exchange-word.ensures.exchanges in
     exchange_meets c.args.self.now c.emit_word-at.new.self c.emit_word-first.new.self c.emit_word-second.new.self c.room_pointer-pointer.new.self
     c.exchange-word.new.self
-    c.put.new.self c.args.scratch c.emit_word-at.result c.emit_word-first.result c.emit_word-second.result c.room_pointer-pointer.result k.device
+    c.assign.new.self c.args.scratch c.emit_word-at.result c.emit_word-first.result c.emit_word-second.result c.room_pointer-pointer.result k.device
     k.unordered
     c.exchange-word.result k.type' c.args.room (term_at ns c.args.index) (term_at ns c.args.a) (term_at ns c.args.b)
     c.room_pointer-pointer.ensures.begun
     c.emit_word-at.ensures.gives c.emit_word-first.ensures.gives c.emit_word-second.ensures.gives c.room_pointer-pointer.ensures.points k.typed k.one
-    k.none k.adds c.put.ensures.put
+    k.none k.adds c.assign.ensures.assigns

@@ -11,8 +11,8 @@ room_pointer-pointer-requires-clause-there c =
 
 pub returns-clause-meets : goal.returns-clause-meets
 returns-clause-meets c =
-    load_meets c.args.self.now c.emit_word-at.new.self c.room_pointer-pointer.new.self c.value-word.new.self c.put.new.self c.args.scratch
+    load_meets c.args.self.now c.emit_word-at.new.self c.room_pointer-pointer.new.self c.value-word.new.self c.assign.new.self c.args.scratch
     c.emit_word-at.result
     c.room_pointer-pointer.result c.value-word.result c.word_type-type_id.result c.args.room (term_at c.args.tree.now.nodes c.args.index)
     c.emit_word-at.ensures.gives
-    c.room_pointer-pointer.ensures.points c.word_type-type_id.ensures c.value-word.ensures.adds c.put.ensures.put
+    c.room_pointer-pointer.ensures.points c.word_type-type_id.ensures c.value-word.ensures.adds c.assign.ensures.assigns

@@ -1,25 +1,15 @@
-use Rattle.std.proofs.Common.{subst}
-use Rattle.kept_values.specs.declared.word.Word.{Word as Kept}
-use Rattle.kept_values.specs.Tables.{IsLast}
-use Rattle.spirv_emit.specs.Steps.{IsPopped}
+use Rattle.spirv_emit.proofs.Assigning.{own_variable}
 use Rattle.spirv_emit.proofs.RoomWaiting.{last_variable}
-use Rattle.spirv_emit.proofs.Saves.{saves_scratch, saves_register}
+use Rattle.spirv_emit.proofs.Saves.{word_saves}
 use Rattle.spirv_emit.proofs.emitter.Emitter.save.Goals as goal
 
-pub returns-in-Some-Scratch-default-clause-saves : goal.returns-in-Some-Scratch-default-clause-saves
-returns-in-Some-Scratch-default-clause-saves c =
-    let a = c.args.self.now in let p = c.take_waiting.new.self in let w = c.in-Some-Scratch-default in
-    saves_scratch a p c.store_to.new.self w.id c.requires.begun w.n (subst (λ (x : Kept). IsLast a.kept x w.id) w.field-0-0-is w.ensures.last)
-    (subst (λ (x : Kept). IsPopped a p x w.id) w.field-0-0-is w.ensures.popped) c.store_to.ensures.stores
+pub store_word-requires-clause-own : goal.store_word-requires-clause-own
+store_word-requires-clause-own c =
+    let w = c.in-Some in last_variable c.args.self.now w.word w.id c.requires.begun w.ensures.last
 
-pub returns-in-Some-Register-default-clause-saves : goal.returns-in-Some-Register-default-clause-saves
-returns-in-Some-Register-default-clause-saves c =
-    let a = c.args.self.now in let p = c.take_waiting.new.self in let w = c.in-Some-Register-default in
-    saves_register a p c.store_to-in-Some-Register-default.new.self w.id c.requires.begun w.k
-    (subst (λ (x : Kept). IsLast a.kept x w.id) w.field-0-0-is w.ensures.last)
-    (subst (λ (x : Kept). IsPopped a p x w.id) w.field-0-0-is w.ensures.popped) c.store_to-in-Some-Register-default.ensures.stores
-
-pub unreachable-requires : goal.unreachable-requires
-unreachable-requires c =
-    let w = c.in-Some-Element-default in
-    last_variable c.args.self.now w.field-0-0 w.field-0-0-0 w.field-0-1 c.requires.begun w.ensures.last w.field-0-0-is
+pub returns-in-Some-clause-saves : goal.returns-in-Some-clause-saves
+returns-in-Some-clause-saves c =
+    let a = c.args.self.now in let w = c.in-Some in
+    let own = last_variable a w.word w.id c.requires.begun w.ensures.last in
+    word_saves a c.take_waiting.new.self c.store_word.new.self w.word w.id c.requires.begun own w.ensures.last w.ensures.popped
+    (c.store_word.ensures.stores _ (own_variable w.word own))

@@ -1,20 +1,12 @@
 use Rattle.shader_tree.specs.Terms.{term_at}
-use Rattle.spirv_emit.proofs.LaneWrites.{register_alters, stored_register}
+use Rattle.spirv_emit.proofs.LaneWrites.{register_alters}
 use Rattle.spirv_emit.proofs.StatementParts.{literal_at}
 use Rattle.spirv_emit.proofs.emitter.Emitter.write_register.Goals as goal
-
-pub returns-then-holds-clause-alters : goal.returns-then-holds-clause-alters
-returns-then-holds-clause-alters c =
-    let ns = c.args.tree.now.nodes in
-    register_alters c.args.self.now c.emit_word-word.new.self c.put.new.self c.in-Word.k c.emit_word-word.result (term_at ns c.args.index)
-    (term_at ns c.args.value)
-    (literal_at ns c.args.index c.in-Word.k c.expr_at.result c.expr_at.ensures c.in-Word.is) c.requires.separate c.emit_word-word.ensures.gives
-    c.put.ensures.put
 
 pub returns-clause-alters : goal.returns-clause-alters
 returns-clause-alters c =
     let ns = c.args.tree.now.nodes in
-    stored_register c.args.self.now c.emit_word-word.new.self c.store_to.new.self c.in-Word.k c.emit_word-word.result (term_at ns c.args.index)
+    register_alters c.args.self.now c.emit_word-word.new.self c.assign.new.self c.in-Word.k c.emit_word-word.result (term_at ns c.args.index)
     (term_at ns c.args.value)
     (literal_at ns c.args.index c.in-Word.k c.expr_at.result c.expr_at.ensures c.in-Word.is) c.requires.separate c.emit_word-word.ensures.gives
-    c.in-None.ensures.absent c.store_to.ensures.stores
+    c.assign.ensures.assigns
