@@ -1,7 +1,6 @@
 -- The tree of the test: its nodes are added one behind the other, and its root is a loop with a switch.
 use Rattle.std.proofs.Common.{◌≡◌, ℕ, zero, suc, ◌<◌, ◌≤◌, List, [], ◌∷◌, ◌++◌, length, Some, refl, sym, ap, ◌∙◌, subst, arith, append_assoc, append-nil}
 use Rattle.std.specs.Prelude.{take, get_or, IsTrue}
-use Rattle.kept_values.specs.Tables.{limits, limits_in}
 use Rattle.shader_tree.specs.declared.node.Comparison.TheVariants.{ULess}
 use Rattle.shader_tree.specs.declared.node.Expr.TheVariants as expr
 use Rattle.shader_tree.specs.declared.node.Node.{Node}
@@ -12,9 +11,8 @@ use Rattle.shader_tree.specs.Nodes.{are_nodes, fit_behind, fits}
 use Rattle.shader_tree.specs.Placed.{is_placed}
 use Rattle.shader_tree.specs.Terms.{Term, Word, Scratch, Compare, Set, Guard, Loop, Switch, Case, Default, Break, Continue, Return, Then, Nothing, term_at, term_within}
 use Rattle.shader_tree.specs.Trees.{Grown}
-use Rattle.shader_tree.specs.Walks.{holds_no}
 use Rattle.spirv_emit.specs.declared.emitter.Emitter.{Emitter as Emission}
-use Rattle.spirv_flow.specs.Emitting.{FitsTree, is_unheld, root_of}
+use Rattle.spirv_flow.specs.Emitting.{FitsTree, root_of}
 use Rattle.spirv_flow.proofs.Fits.{and_left, and_right}
 use Rattle.spirv_flow.proofs.Marked.{at_most}
 
@@ -70,14 +68,12 @@ pub filled : (empty tree rooted : Grown) → tree ≡ record empty { nodes = nod
 filled empty tree rooted e f = ap root_of f ∙ (ap (λ (t : Grown). root_of (record t { root = Some 25 })) e ∙ root_is)
 
 -- What emit_tree asks of it.
-pub whole_fits : (e : Emission) → limits_in e.kept ≡ limits 1 0 0 → FitsTree e whole
-whole_fits e h = record {
+pub whole_fits : (e : Emission) → FitsTree e whole
+whole_fits e = record {
   spaces = tt;
   rooms = tt;
   threads = tt;
-  held = subst (λ l. IsTrue (holds_no (is_unheld l) whole)) (sym h) refl;
   changed = tt;
-  literals = refl;
 }
 
 pub whole_placed : IsTrue (is_placed whole)

@@ -1,7 +1,6 @@
 -- What a statement may hold: so may its parts, and so it may while code is added.
 use Rattle.std.proofs.Common.{◌≡◌, ℕ, List, [], ◌∷◌, ◌++◌, Option, Some, None, Bool, true, false, refl, sym, ap, ◌∙◌, subst}
 use Rattle.std.specs.Prelude.{◌&&◌, Ok, IsTrue}
-use Rattle.kept_values.specs.Tables.{limits_in}
 use Rattle.shader_tree.specs.declared.node.Space.{Space}
 use Rattle.shader_tree.specs.declared.node.Space.TheVariants as space
 use Rattle.shader_tree.specs.Holding.{is_long}
@@ -22,7 +21,7 @@ use Rattle.spirv_emit.specs.Emission.{buffer_of}
 use Rattle.spirv_emit.specs.declared.emitter.Emitter.{Emitter as Emission}
 use Rattle.spirv_emit.specs.declared.emitter.Frame.{Frame}
 use Rattle.spirv_emit.specs.Growing.{Grows}
-use Rattle.spirv_flow.specs.Emitting.{IsFit, is_unheld}
+use Rattle.spirv_flow.specs.Emitting.{IsFit}
 
 -- LISTS AND TESTS.
 each_front : {X : Type 0} (P : X → Type 0) (xs ys : List X) → Each P (xs ++ ys) → Each P xs
@@ -55,19 +54,17 @@ thread_there e k = IsThere e.symbols.entries (Input (built_in_of k))
 abbrev takes : Room → Type 0
 takes room = takes_stores room ≡ Ok 0
 
-record Facts (e : Emission) (spaces : List Space) (rooms : List Room) (threads : List Kind) (direct held : Bool) (changed : List Room)
+record Facts (e : Emission) (spaces : List Space) (rooms : List Room) (threads : List Kind) (direct : Bool) (changed : List Room)
     (short : Bool) : Type 0 where
   pub spaces' : Each (IsSpaceThere e) spaces
   pub rooms' : Each (room_there e) rooms
   pub threads' : Each (thread_there e) threads
   pub direct' : e.frame.separate ≡ true → IsTrue direct
-  pub held' : IsTrue held
   pub changed' : Each takes changed
   pub short' : IsTrue short
 
 abbrev FactsOf : Emission → Term → Type 0
-FactsOf e x = Facts e (spaces_in x) (rooms_in x) (threads_in x) (holds_no is_searched x) (holds_no (is_unheld (limits_in e.kept)) x) (changed_in x)
-    (holds_no is_long x)
+FactsOf e x = Facts e (spaces_in x) (rooms_in x) (threads_in x) (holds_no is_searched x) (changed_in x) (holds_no is_long x)
 
 facts : (e : Emission) (x : Term) → IsFit e x → FactsOf e x
 facts e x h = record {
@@ -75,7 +72,6 @@ facts e x h = record {
   rooms' = h.names.rooms;
   threads' = h.names.threads;
   direct' = h.names.direct;
-  held' = h.held;
   changed' = h.changed;
   short' = h.literals;
 }
@@ -83,31 +79,28 @@ facts e x h = record {
 fit : (e : Emission) (x : Term) → FactsOf e x → IsFit e x
 fit e x h = record {
   names = record { spaces = h.spaces'; rooms = h.rooms'; threads = h.threads'; direct = h.direct' };
-  held = h.held';
   changed = h.changed';
   literals = h.short';
 }
 
-front : (e : Emission) (s s' : List Space) (r r' : List Room) (t t' : List Kind) (d d' h h' : Bool) (c c' : List Room) (w w' : Bool)
-    → Facts e (s ++ s') (r ++ r') (t ++ t') (d && d') (h && h') (c ++ c') (w && w') → Facts e s r t d h c w
-front e s s' r r' t t' d d' h h' c c' w w' f = record {
+front : (e : Emission) (s s' : List Space) (r r' : List Room) (t t' : List Kind) (d d' : Bool) (c c' : List Room) (w w' : Bool)
+    → Facts e (s ++ s') (r ++ r') (t ++ t') (d && d') (c ++ c') (w && w') → Facts e s r t d c w
+front e s s' r r' t t' d d' c c' w w' f = record {
   spaces' = each_front (IsSpaceThere e) s s' f.spaces';
   rooms' = each_front (room_there e) r r' f.rooms';
   threads' = each_front (thread_there e) t t' f.threads';
   direct' = λ q. and_left d d' (f.direct' q);
-  held' = and_left h h' f.held';
   changed' = each_front takes c c' f.changed';
   short' = and_left w w' f.short';
 }
 
-back : (e : Emission) (s s' : List Space) (r r' : List Room) (t t' : List Kind) (d d' h h' : Bool) (c c' : List Room) (w w' : Bool)
-    → Facts e (s ++ s') (r ++ r') (t ++ t') (d && d') (h && h') (c ++ c') (w && w') → Facts e s' r' t' d' h' c' w'
-back e s s' r r' t t' d d' h h' c c' w w' f = record {
+back : (e : Emission) (s s' : List Space) (r r' : List Room) (t t' : List Kind) (d d' : Bool) (c c' : List Room) (w w' : Bool)
+    → Facts e (s ++ s') (r ++ r') (t ++ t') (d && d') (c ++ c') (w && w') → Facts e s' r' t' d' c' w'
+back e s s' r r' t t' d d' c c' w w' f = record {
   spaces' = each_back (IsSpaceThere e) s s' f.spaces';
   rooms' = each_back (room_there e) r r' f.rooms';
   threads' = each_back (thread_there e) t t' f.threads';
   direct' = λ q. and_right d d' (f.direct' q);
-  held' = and_right h h' f.held';
   changed' = each_back takes c c' f.changed';
   short' = and_right w w' f.short';
 }
@@ -115,18 +108,13 @@ back e s s' r r' t t' d d' h h' c c' w w' f = record {
 module _ (e : Emission) where
   -- two parts, one behind the other
   both : (a b : Term) → Facts e (spaces_in a ++ spaces_in b) (rooms_in a ++ rooms_in b) (threads_in a ++ threads_in b)
-      (holds_no is_searched a && holds_no is_searched b)
-      (holds_no (is_unheld (limits_in e.kept)) a && holds_no (is_unheld (limits_in e.kept)) b)
-      (changed_in a ++ changed_in b) (holds_no is_long a && holds_no is_long b) → IsFit e a × IsFit e b
-  both a b f =
-      let u = limits_in e.kept in (
-        fit e a (front e (spaces_in a) (spaces_in b) (rooms_in a) (rooms_in b) (threads_in a) (threads_in b) (holds_no is_searched a)
-            (holds_no is_searched b) (holds_no (is_unheld u) a) (holds_no (is_unheld u) b) (changed_in a) (changed_in b) (holds_no is_long a)
-            (holds_no is_long b) f),
-        fit e b (back e (spaces_in a) (spaces_in b) (rooms_in a) (rooms_in b) (threads_in a) (threads_in b) (holds_no is_searched a)
-            (holds_no is_searched b) (holds_no (is_unheld u) a) (holds_no (is_unheld u) b) (changed_in a) (changed_in b) (holds_no is_long a)
-            (holds_no is_long b) f),
-      )
+      (holds_no is_searched a && holds_no is_searched b) (changed_in a ++ changed_in b) (holds_no is_long a && holds_no is_long b) → IsFit e a × IsFit e b
+  both a b f = (
+    fit e a (front e (spaces_in a) (spaces_in b) (rooms_in a) (rooms_in b) (threads_in a) (threads_in b) (holds_no is_searched a)
+        (holds_no is_searched b) (changed_in a) (changed_in b) (holds_no is_long a) (holds_no is_long b) f),
+    fit e b (back e (spaces_in a) (spaces_in b) (rooms_in a) (rooms_in b) (threads_in a) (threads_in b) (holds_no is_searched a)
+        (holds_no is_searched b) (changed_in a) (changed_in b) (holds_no is_long a) (holds_no is_long b) f),
+  )
 
   pub guard_fit : (b x : Term) → IsFit e (term.Guard b x) → IsFit e b × IsFit e x
   guard_fit b x h = both b x (facts e (term.Guard b x) h)
@@ -180,7 +168,6 @@ module _ (a b : Emission) (seg : List Instr) (g : Grows a b seg) where
       threads = each_by (thread_there a) (thread_there b) (threads_in x) (λ k. there_stays (Input (built_in_of k))) h.names.threads;
       direct = λ q. h.names.direct (ap (λ f. f.separate) (sym g.same.frame) ∙ q);
     };
-    held = subst (λ u. IsTrue (holds_no (is_unheld u) x)) (sym g.same.limits) h.held;
     changed = h.changed;
     literals = h.literals;
   }

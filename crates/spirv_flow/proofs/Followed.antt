@@ -46,13 +46,15 @@ module _ (g : Spaces) (m : Machine) (settled : IsSettled m.code) (Table : Type 0
   abbrev pub tree_step : tree.State → Turn tree.State
   tree_step = tree.step g m.setting
 
-  -- The lanes stand side by side: the module's where the rest of the tree's chain stands, with the tree's words and as many turns back.
+  -- The lanes stand side by side: the module's comes silently where the rest of the tree's chain stands, with the tree's words and as many
+  -- turns back.
   pub record Same (t : tree.State) (c : Counted State) : Type 0 where
     pub items : List (Follow Table)
     pub table : Table
-    pub here : After g m settled Table Holds IsClean IsNew carries c.state.place table items
+    pub place : ℕ
+    pub reached : Reaches g m settled Table Holds IsClean IsNew carries c.state c.count place table t.words
+    pub here : After g m settled Table Holds IsClean IsNew carries place table items
     pub chain : t.chain ≡ chain_of items
-    pub holds : Holds table c.state t.words
     pub count : t.turns ≡ c.count
     pub sound : NeverWrong tree_step t
     pub small : IsSmall N t.chain
@@ -68,6 +70,10 @@ module _ (g : Spaces) (m : Machine) (settled : IsSettled m.code) (Table : Type 0
       (s : State) (n : ℕ) (a : Table) (w : Words) → Behind s.place a k → Holds a s w → NeverWrong tree_step (tree.state (chain_of k) w n)
       → IsSmall N (chain_of k) → Owes (tree_step (tree.state (chain_of k) w n)) (tree.state (chain_of k) w n) (at_count s n)
 
+  -- a place that was reached is where the lane stands then
+  arrived : (s : State) (n p : ℕ) (a : Table) (w : Words) → (r : Reach s n p a w) → Reach r.to n p a w
+  arrived s n p a w r = record { steps = 0; to = r.to; goes = refl; place = r.place; holds = r.holds }
+
   -- a silent step, at a place that was reached
   comes : (t : tree.State) (c : List Link) (w : Words) (s : State) (n p : ℕ) (a : Table) (k : Items) → (r : Reach s n p a w) → Behind p a k
       → c ≡ chain_of k
@@ -80,9 +86,10 @@ module _ (g : Spaces) (m : Machine) (settled : IsSettled m.code) (Table : Type 0
     record {
       items = k;
       table = a;
-      here = subst (λ q. Behind q a k) (sym r.place) h;
+      place = p;
+      reached = arrived s n p a w r;
+      here = h;
       chain = e;
-      holds = r.holds;
       count = refl;
       sound = sound_silent tree_step t (tree.state c w n) sound turn;
       small = small;
@@ -139,6 +146,10 @@ module _ (g : Spaces) (m : Machine) (settled : IsSettled m.code) (Table : Type 0
       (reached.some_steps g m settled Table Holds IsClean IsNew carries s n s.place j.q to a w h.1 j.labelled j.ahead first)))
 
   -- A STATEMENT OF ONE STEP.
+  plain_back : (x y : List Instr) → ArePlain (x ++ y) → ArePlain y
+  plain_back [] y h = h
+  plain_back (i ∷ x) y h = plain_back x y h.1
+
   size_falls : (x : Term) (k : List Link) → size x ≡ 1 → front k < front (Run x ∷ k)
   size_falls x k e = omega (arith, e)
 
@@ -153,9 +164,10 @@ module _ (g : Spaces) (m : Machine) (settled : IsSettled m.code) (Table : Type 0
     record {
       items = k;
       table = z;
-      here = subst (λ q. Behind q z k) (sym law.place) behind;
+      place = s.place + length code;
+      reached = record { steps = 0; to = law.to; goes = refl; place = law.place; holds = law.holds };
+      here = behind;
       chain = refl;
-      holds = law.holds;
       count = refl;
       sound = sound_silent tree_step (tree.state (Run x ∷ chain_of k) w n) (tree.state (chain_of k) t.words n) sound turn;
       small = small.1;
@@ -168,16 +180,27 @@ module _ (g : Spaces) (m : Machine) (settled : IsSettled m.code) (Table : Type 0
     (λ a. at_count (law.2 a) n),
     straight m settled code law.0 s law.1 n here plain law.3 law.4,
     count_asks m settled law.1 n e law.2 law.5,
-    λ a lt. record {
-      items = k;
-      table = z;
-      here = subst (λ q. Behind q z k) (sym (law.6 a lt).0) behind;
-      chain = refl;
-      holds = (law.6 a lt).1;
-      count = refl;
-      sound = sound_event tree_step (tree.state (Run x ∷ chain_of k) w n) e (λ b. tree.state (chain_of k) (after b).words n) a sound turn lt;
-      small = small.1;
-    },
+    λ a lt.
+        let o = law.6 a lt in
+        let left = has_back m.code s.place o.front o.back (subst (λ l. HasAt m.code s.place l) o.parts here) in
+        record {
+          items = k;
+          table = z;
+          place = s.place + length code;
+          reached = record {
+            steps = length o.back;
+            to = o.arrives.to;
+            goes = straight m settled o.back (length o.back) (law.2 a) o.arrives.to n (subst (λ q. HasAt m.code q o.back) (sym o.place) left)
+                (plain_back o.front o.back (subst (λ l. ArePlain l) o.parts plain)) (omega arith) o.arrives.goes;
+            place = omega (arith, o.arrives.place, o.place, ap length o.parts, length-append o.front o.back);
+            holds = o.arrives.holds;
+          };
+          here = behind;
+          chain = refl;
+          count = refl;
+          sound = sound_event tree_step (tree.state (Run x ∷ chain_of k) w n) e (λ b. tree.state (chain_of k) (after b).words n) a sound turn lt;
+          small = small.1;
+        },
   )
   leaf_by x code z k s n w Ends one here plain behind law turn sound small = absurd law
   leaf_by x code z k s n w (Wrong place rule) one here plain behind law turn sound small =
@@ -466,11 +489,10 @@ module _ (g : Spaces) (m : Machine) (settled : IsSettled m.code) (Table : Type 0
         record {
           items = Rest x l e c h.is_body.ended ∷ Pass back h.is_body.last ∷ Jump c ∷ Turns x i j c e l back ∷ k;
           table = h.is_body.begun;
-          here = subst (λ q. Behind q h.is_body.begun (Rest x l e c h.is_body.ended ∷ Pass back h.is_body.last ∷ Jump c ∷ Turns x i j c e l back ∷ k))
-              (sym r.place)
-              (body_of_turn x i j c e l back s.place a k h);
+          place = h.inner;
+          reached = arrived to (n + 1) h.inner h.is_body.begun w r;
+          here = body_of_turn x i j c e l back s.place a k h;
           chain = refl;
-          holds = r.holds;
           count = refl;
           sound = sound_silent tree_step t u sound turn;
           small = small_push N x (Again x ∷ chain_of k) (omega (arith, small.0)) small;
@@ -848,8 +870,8 @@ module _ (g : Spaces) (m : Machine) (settled : IsSettled m.code) (Table : Type 0
       let at : tree.state (chain_of r.items) t.words c.count ≡ t = ap (λ k. tree.state k t.words c.count) (sym r.chain) ∙ ap
       (λ n. tree.state t.chain t.words n) (sym r.count) in
       subst (λ u. Owes (tree_step u) u c) at
-      (follow r.items c.state c.count r.table t.words r.here r.holds (subst (λ u. NeverWrong tree_step u) (sym at) r.sound)
-      (subst (IsSmall N) r.chain r.small))
+      (onward r.items c.state c.count r.place r.table t.words (follow r.items) r.reached r.here
+      (subst (λ u. NeverWrong tree_step u) (sym at) r.sound) (subst (IsSmall N) r.chain r.small))
 
   pub same_events : (t : tree.State) (c : Counted State) → Same t c → SameLanes tree_step (right m settled) t c
   same_events t c r = same_lanes tree_step (right m settled) Same measure N keeps (λ u d q. small_front N u.chain q.small) t c r
@@ -869,6 +891,8 @@ module _ (g : Spaces) (m : Machine) (settled : IsSettled m.code) (Table : Type 0
       record {
         items = Rest x l 0 0 z ∷ [];
         table = a;
+        place = s.place;
+        reached = reached.at_once g m settled Table Holds IsClean IsNew carries s 0 a w holds;
         here = (
           has_front m.code s.place (code_of l 0 0) (leave ∷ []) here,
           lowered,
@@ -876,7 +900,6 @@ module _ (g : Spaces) (m : Machine) (settled : IsSettled m.code) (Table : Type 0
           (has_back m.code s.place (code_of l 0 0) (leave ∷ []) here).0,
         );
         chain = refl;
-        holds = holds;
         count = refl;
         sound = sound;
         small = small_push N x [] e (omega (arith, few));

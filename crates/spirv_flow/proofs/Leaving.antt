@@ -1,5 +1,5 @@
 -- Statements of one step, from what the calls that wrote them ensure.
-use Rattle.std.proofs.Common.{◌≡◌, ℕ, ◌<◌, inl, List, [], ◌∷◌, Option, Some, None, Bool, true, false, refl, sym, arith}
+use Rattle.std.proofs.Common.{length, ◌≡◌, ℕ, ◌<◌, inl, List, [], ◌∷◌, Option, Some, None, Bool, true, false, refl, sym, ap, arith, length-append}
 use Rattle.std.specs.Prelude.{nat_lt, cond, Ok, map}
 use Rattle.std.proofs.lemmas.Bool.Decides.{nat_tests}
 use Rattle.kept_values.specs.Tables.{IsEmpty}
@@ -161,8 +161,28 @@ module _ (keeping : IsKeeping) where
       → HasAt z.machine.code s.place h.seg
       → Holds z a.kept s w → (e : Event) (u : ℕ → Words) → E z w e u → Keeps (asked e u) → Answers z.machine (Holds z) (asked e u) h.seg b.kept s
   met z a b item E h full s w here holds e u x k =
-      let r = h.law z full s w e u (record { here = here; mirrors = holds.mirrors; words = holds.words }) x in
-      (r.0, r.1, r.2, r.3, r.4, r.5, λ answer lt. let c = r.6 answer lt in (c.place, record { mirrors = c.mirrors; words = (k answer lt).words }))
+      let r = h.law z full s w e u (record { here = here; mirrors = holds.mirrors; words = holds.words }) x in (
+        r.0,
+        r.1,
+        r.2,
+        r.3,
+        r.4,
+        r.5,
+        λ answer lt.
+            let c = r.6 answer lt in
+            record {
+              front = c.front;
+              back = c.back;
+              parts = c.parts;
+              place = c.place;
+              arrives = record {
+                to = c.to;
+                goes = c.goes;
+                place = omega (arith, c.behind.place, c.place, ap length c.parts, length-append c.front c.back);
+                holds = record { mirrors = c.behind.mirrors; words = (k answer lt).words };
+              };
+            },
+      )
 
   does_load : (z : Site) (a b : Emission) (n : ℕ) (room : Room) (at : Term) (h : Meets a b (shapes.Loads room) (Loads n room at)) → Completes b z
       → (s : State) (w : Words) → HasAt z.machine.code s.place h.seg

@@ -1,12 +1,11 @@
 -- The function is open for a tree: what the tree may hold then.
 use Rattle.std.proofs.Common.{ℕ, List, Option, Some, None, sym, subst}
-use Rattle.std.specs.Prelude.{IsTrue}
-use Rattle.kept_values.specs.Tables.{limits_in}
 use Rattle.shader_tree.specs.declared.node.Node.{Node}
 use Rattle.shader_tree.specs.declared.node.Space.{Space}
 use Rattle.shader_tree.specs.declared.node.Space.TheVariants as space
+use Rattle.shader_tree.specs.Holding.{OfWords}
 use Rattle.shader_tree.specs.Terms.{term_at}
-use Rattle.shader_tree.specs.Walks.{holds_no, spaces_in, rooms_in, threads_in}
+use Rattle.shader_tree.specs.Walks.{spaces_in, rooms_in, threads_in}
 use Rattle.spirv_symbols.specs.declared.symbol.Symbol.{Symbol}
 use Rattle.spirv_symbols.specs.declared.symbol.Symbol.TheVariants.{Memory, Input, Elements, ImmediateArray, Uniform, Push}
 use Rattle.spirv_symbols.specs.Tables.{Has, Table, Extends}
@@ -18,7 +17,7 @@ use Rattle.spirv_emit.specs.declared.emitter.Emitter.{Emitter as Emission}
 use Rattle.spirv_emit.specs.declared.emitter.Frame.{Frame}
 use Rattle.spirv_emit.specs.Emission.{buffer_of}
 use Rattle.spirv_emit.specs.Naming.{Opened}
-use Rattle.spirv_flow.specs.Emitting.{IsFit, FitsTree, IsSpaceNamed, is_unheld}
+use Rattle.spirv_flow.specs.Emitting.{IsFit, FitsTree, IsSpaceNamed}
 use Rattle.spirv_flow.proofs.Fits.{each_by}
 
 -- symbols keep their ids in tables that grow
@@ -45,8 +44,8 @@ module _ (kept : AreKept) (a b : Emission) (nodes : List Node) (o : Opened a b n
       (buffer_opened (buffer_of a.frame.buffers.list slot) h)
   space_opened space.ImmediateConstant h = there_opened ImmediateArray h
 
-  pub opened_fit : (id : ℕ) → FitsTree a (term_at nodes id) → IsFit b (term_at nodes id)
-  opened_fit id h =
+  pub opened_fit : (id : ℕ) → FitsTree a (term_at nodes id) → OfWords (term_at nodes id) → IsFit b (term_at nodes id)
+  opened_fit id h words =
       let x = term_at nodes id in
       record {
         names = record {
@@ -57,7 +56,6 @@ module _ (kept : AreKept) (a b : Emission) (nodes : List Node) (o : Opened a b n
               (threads_in x) (λ k. there_opened (Input (built_in_of k))) h.threads;
           direct = λ q. o.direct q id;
         };
-        held = subst (λ e. IsTrue (holds_no (is_unheld (limits_in e.kept)) x)) (sym o.rest) h.held;
         changed = h.changed;
-        literals = h.literals;
+        literals = words;
       }

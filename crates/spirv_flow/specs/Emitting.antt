@@ -1,7 +1,5 @@
 -- What a statement needs so that its blocks can be written, and what is written then.
-use Rattle.std.specs.Prelude.{◌≡◌, ℕ, ◌+◌, ◌*◌, ◌<◌, ◌≤◌, ◌^◌, not, Bool, true, false, List, Option, Some, None, unwrap_or, is_some, Ok, IsTrue}
-use Rattle.kept_values.specs.declared.word.Word.TheVariants.{Scratch}
-use Rattle.kept_values.specs.Tables.{Limits, limits_in, holds}
+use Rattle.std.specs.Prelude.{◌≡◌, ℕ, ◌+◌, ◌*◌, ◌<◌, ◌≤◌, ◌^◌, true, false, List, Option, Some, None, unwrap_or, is_some, Ok, IsTrue}
 use Rattle.shader_tree.specs.declared.node.Node.{Node}
 use Rattle.shader_tree.specs.declared.node.Space.{Space}
 use Rattle.shader_tree.specs.declared.node.Space.TheVariants as space
@@ -12,7 +10,7 @@ use Rattle.shader_tree.specs.Placed.{placed_in}
 use Rattle.shader_tree.specs.Terms.{Term, term_at}
 use Rattle.shader_tree.specs.Terms as term
 use Rattle.shader_tree.specs.Trees.{Grown}
-use Rattle.shader_tree.specs.Walks.{Each, holds_no, spaces_in, rooms_in, threads_in, changed_in}
+use Rattle.shader_tree.specs.Walks.{Each, spaces_in, rooms_in, threads_in, changed_in}
 use Rattle.spirv_words.specs.Memory.{takes_stores}
 use Rattle.spirv_symbols.specs.declared.symbol.Symbol.TheVariants.{Input, Memory}
 use Rattle.spirv_emit.specs.Begun.{IsBegun, IsThere, IsSpaceThere, Names, built_in_of}
@@ -23,13 +21,6 @@ use Rattle.spirv_emit.specs.Naming.{Opened}
 use Rattle.spirv_flow.specs.declared.around.Around.{Around}
 use Rattle.spirv_flow.specs.declared.around.Chain.{Chain}
 use Rattle.spirv_flow.specs.Lowers.{Lowers, marks}
-
--- a statement that gives a value to a scratch word that is not kept as an id
-abbrev pub is_unheld : Limits → Term → Bool
-is_unheld limits (term.Set n v) = not (holds limits (Scratch n))
-is_unheld limits (term.Load n room at) = not (holds limits (Scratch n))
-is_unheld limits (term.Atomic n room at kind a b) = not (holds limits (Scratch n))
-is_unheld limits other = false
 
 -- a statement that stands in one block
 abbrev pub IsPlain : Term → Type 0
@@ -42,11 +33,9 @@ IsPlain (term.Sync threads scope classes) = Unit {0}
 IsPlain term.Nothing = Unit {0}
 IsPlain other = ⊥
 
--- WHAT A STATEMENT MAY HOLD: what it names is there, its scratch words are kept as ids, it changes no read-only view,
--- and its literals are words.
+-- WHAT A STATEMENT MAY HOLD: what it names is there, it changes no read-only view, and its literals are words.
 pub record IsFit (e : Emission) (x : Term) : Type 0 where
   pub names : Names e x
-  pub held : IsTrue (holds_no (is_unheld (limits_in e.kept)) x)
   pub changed : Each (λ room. takes_stores room ≡ Ok 0) (changed_in x)
   pub literals : OfWords x
 
@@ -109,9 +98,7 @@ pub record FitsTree (e : Emission) (x : Term) : Type 0 where
   pub spaces : Each (IsSpaceNamed e) (spaces_in x)
   pub rooms : Each (λ room. IsThere e.symbols.entries (Memory room)) (rooms_in x)
   pub threads : Each (λ k. IsThere e.symbols.entries (Input (built_in_of k))) (threads_in x)
-  pub held : IsTrue (holds_no (is_unheld (limits_in e.kept)) x)
   pub changed : Each (λ room. takes_stores room ≡ Ok 0) (changed_in x)
-  pub literals : OfWords x
 
 -- The function was opened, the blocks of the root were written, and the last of them ends.
 pub record EmitsTree (old new : Emission) (tree : Grown) : Type 0 where

@@ -1,7 +1,7 @@
 -- What pieces of code do while the lanes of a tree and of a module run side by side. The module's lane has the words of
 -- the tree's lane by a table, which the code in front of it leaves: what a table says of ids and variables is given by
 -- the relation `Holds`.
-use Rattle.std.specs.Prelude.{◌≡◌, ℕ, ◌+◌, ◌<◌, ◌≤◌, ◌^◌, Bool, true, List, [], length, Some, slice_get}
+use Rattle.std.specs.Prelude.{◌≡◌, ℕ, ◌+◌, ◌<◌, ◌≤◌, ◌^◌, Bool, true, List, [], ◌++◌, length, Some, slice_get}
 use Rattle.word_base.specs.Lanes.{Turn, Silent, Asks, Ends, Wrong, Goes}
 use Rattle.spirv_words.specs.Text.{Instr}
 use Rattle.spirv_words.specs.Values.{Value, Word, Truth}
@@ -22,6 +22,14 @@ module _ (m : Machine) {Table : Type 0} (Holds : Table → State → Words → T
     pub place : to.place ≡ s.place + length code
     pub holds : Holds b to w
 
+  -- It stands inside the code, which it began at s, and arrives behind it from there.
+  pub record ArrivesFrom (code : List Instr) (b : Table) (s from : State) (w : Words) : Type 0 where
+    pub front : List Instr
+    pub back : List Instr
+    pub parts : code ≡ front ++ back
+    pub place : from.place ≡ s.place + length front
+    pub arrives : Arrives back b from w
+
   -- and the id has the value
   pub record Gives (code : List Instr) (b : Table) (r : ℕ) (v : Value) (s : State) (w : Words) : Type 0 where
     pub arrives : Arrives code b s w
@@ -35,13 +43,13 @@ module _ (m : Machine) {Table : Type 0} (Holds : Table → State → Words → T
   Always code a b r = (s : State) (w : Words) → HasAt m.code s.place code → Holds a s w → Gives code b r (Truth true) s
       w
 
-  -- The code of a statement that is one step of the tree's lane: a silent step, or an event whose answer leads behind
-  -- the code.
+  -- The code of a statement that is one step of the tree's lane: a silent step, or an event from whose answer the lane
+  -- arrives behind the code.
   abbrev pub Answers : Turn tree.State → List Instr → Table → State → Type 0
   Answers (Silent t) code b s = Arrives code b s t.words
   Answers (Asks e after) code b s =
       (n : ℕ) × (to : State) × (on : ℕ → State) × (n ≤ length code) × Goes (step m) n s to × (step m to ≡ Asks e on)
-      × ((a : ℕ) → a < 2 ^ 32 → ((on a).place ≡ s.place + length code) × Holds b (on a) (after a).words)
+      × ((a : ℕ) → a < 2 ^ 32 → ArrivesFrom code b s (on a) (after a).words)
   Answers Ends code b s = ⊥
   Answers (Wrong place rule) code b s = Unit {0}
 

@@ -23,6 +23,5 @@ emit-requires-clause-may c =
     let i = q.ids in
     let w' = o.ensures.words in
     let i' = o.ensures.ids in
-    root_may o.new.self (term_at ns r) o.ensures.begun
-    (opened_fit c.growth_laws.ensures.kept c.args.emitter.now o.new.self ns o.ensures.opened r fits) placed (omega (arith, words, w, w'))
-    (omega (arith, ids, i, i'))
+    let fit = opened_fit c.growth_laws.ensures.kept c.args.emitter.now o.new.self ns o.ensures.opened r fits c.root-root.ensures.literals in
+    root_may o.new.self (term_at ns r) o.ensures.begun fit placed (omega (arith, words, w, w')) (omega (arith, ids, i, i'))

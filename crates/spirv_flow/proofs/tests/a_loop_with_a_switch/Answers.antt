@@ -1,6 +1,5 @@
-use Rattle.std.proofs.Common.{sym, ap, ◌∙◌, subst, arith}
+use Rattle.std.proofs.Common.{sym, ap, subst, arith}
 use Rattle.std.specs.Prelude.{IsTrue}
-use Rattle.kept_values.specs.Tables.{limits_in}
 use Rattle.shader_tree.specs.Costs.{words_in, ids_in}
 use Rattle.shader_tree.specs.Placed.{is_placed}
 use Rattle.spirv_flow.specs.Emitting.{FitsTree}
@@ -13,8 +12,7 @@ fill-requires-clause-nodes g c = nodes_fit
 pub emit_tree-requires-clause-fits : goal.emit_tree-requires-clause-fits
 emit_tree-requires-clause-fits g c =
     let e = filled c.in_ok-tree.tree c.fill.new.tree c.set_root.new.self c.fill.ensures c.set_root.ensures in
-    subst (λ x. FitsTree c.start.new.self x) (sym e)
-    (whole_fits c.start.new.self (ap (λ e. limits_in e.kept) c.start.ensures.rest ∙ c.in_ok-emitter.ensures.kept))
+    subst (λ x. FitsTree c.start.new.self x) (sym e) (whole_fits c.start.new.self)
 
 pub emit_tree-requires-clause-placed : goal.emit_tree-requires-clause-placed
 emit_tree-requires-clause-placed g c =
