@@ -12,3 +12,5 @@ pub mod SameValues
 pub mod DispatchWords
 pub mod ProgramWords
 pub mod SameDispatches
+pub mod Drives
+pub mod FoundRuns

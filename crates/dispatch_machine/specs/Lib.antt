@@ -7,3 +7,5 @@ pub mod ModuleRunExamples
 pub mod BufferExamples
 pub mod NullExamples
 pub mod WrongExamples
+pub mod Lane
+pub mod LaneExample

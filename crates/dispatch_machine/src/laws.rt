@@ -1,6 +1,7 @@
 //! no code: what proofs above may cite
-ghost use Rattle.std.specs.Prelude.{◌≡◌, ℕ, List, [], ◌∷◌, ◌++◌, IsTrue, Some, slice_get};
-ghost use Rattle.word_base.specs.Lanes.{Turn, Standing, Meets};
+ghost use Rattle.std.specs.Prelude.{◌≡◌, ◌↔◌, ℕ, ◌<◌, List, [], ◌∷◌, ◌++◌, IsTrue, Some, slice_get};
+ghost use Rattle.word_base.specs.declared.event.Event.{Event};
+ghost use Rattle.word_base.specs.Lanes.{Turn, Asks, Ends, Wrong, Standing, Goes, MeetsIn, Meets};
 ghost use Rattle.word_base.specs.Settings.{Axes, Setting};
 ghost use Rattle.tpf_decode.specs.Profiles.{Base};
 ghost use Rattle.tpf_program.specs.declared.instruction.Instruction.{Instruction};
@@ -16,14 +17,18 @@ ghost use Rattle.spirv_words.specs.Text.{Module};
 ghost use Rattle.binding_map.specs.Bindings.{Binding};
 ghost use Rattle.binding_map.specs.Examples.{given, given_map};
 ghost use Rattle.binding_map.specs.Fits.{Fits};
+ghost use Rattle.dispatch_machine.specs.declared.lane.Next.TheVariants as next;
+ghost use Rattle.dispatch_machine.specs.declared.lane.Strict.{Strict};
 ghost use Rattle.dispatch_machine.specs.BufferExamples.{one_buffer, b0_bound, b0_pushed, with_buffer};
 ghost use Rattle.dispatch_machine.specs.Dispatch.{Dispatch, Shares, IsDispatch};
+ghost use Rattle.dispatch_machine.specs.Lane.{Position, At, behind, found, go, go_from};
 ghost use Rattle.dispatch_machine.specs.NullExamples.{with_null};
 ghost use Rattle.dispatch_machine.specs.RunExamples.{summing, one_group, in_turns, returns, run_by, u0_bound};
 ghost use Rattle.dispatch_machine.specs.Runs.{Machine, HasValue, Leads};
 ghost use Rattle.dispatch_machine.specs.SameRuns.{FollowsIn, SameRuns, ProgramRuns, ModuleRuns};
 ghost use Rattle.dispatch_machine.specs.WrongExamples.{loud_in};
 
+use crate::lane::Lane;
 use binding_map::binding_laws;
 use tpf_program::bytecode_laws;
 use word_base::result_laws;
@@ -82,3 +87,29 @@ pub fn same_laws()
     bytecode_laws();
     result_laws();
 }
+
+/// What `next` of a lane finds, in the words of steps and turns, for the proofs of callers. It does
+/// nothing when it runs.
+///
+/// It finds an event, an end or a broken rule exactly where the lane takes that turn behind that many
+/// silent steps, fewer than the fuel, and nothing exactly where as many silent steps as the fuel lead
+/// on. Behind an end or a broken rule it finds the same again, with no step.
+pub fn lane_laws<L: Lane>()
+    ensures event { (step : L.State → Turn L.State) (fuel k : ℕ) (s : L.State) (e : Event) (at : Position L.State)
+        → ((go step fuel s ≡ found (next.Event e) k at)
+        ↔ ((k < fuel) × ((after : ℕ → L.State) × MeetsIn step k s (Asks e after) × (at ≡ behind e after)))) }
+    ensures ended { (step : L.State → Turn L.State) (fuel k : ℕ) (s : L.State) (at : Position L.State)
+        → ((go step fuel s ≡ found next.Ended k at)
+        ↔ ((k < fuel) × ((t : L.State) × Goes step k s t × (step t ≡ Ends) × (at ≡ At t)))) }
+    ensures wrong { (step : L.State → Turn L.State) (fuel k : ℕ) (s : L.State) (w : Strict) (at : Position L.State)
+        → ((go step fuel s ≡ found (next.Wrong w) k at)
+        ↔ ((k < fuel) × ((t : L.State) × Goes step k s t × (step t ≡ Wrong w.place w.rule) × (at ≡ At t)))) }
+    ensures spinning { (step : L.State → Turn L.State) (fuel k : ℕ) (s : L.State) (at : Position L.State)
+        → ((go step fuel s ≡ found next.Spinning k at)
+        ↔ ((k ≡ fuel) × ((t : L.State) × Goes step fuel s t × (at ≡ At t)))) }
+    ensures ended_again { (step : L.State → Turn L.State) (fuel k more : ℕ) (s : L.State) (at : Position L.State)
+        → go step fuel s ≡ found next.Ended k at → 0 < more → go_from step more at ≡ found next.Ended 0 at }
+    ensures wrong_again { (step : L.State → Turn L.State) (fuel k more : ℕ) (s : L.State) (w : Strict)
+        (at : Position L.State) → go step fuel s ≡ found (next.Wrong w) k at → 0 < more
+        → go_from step more at ≡ found (next.Wrong w) 0 at }
+{}
