@@ -8,13 +8,10 @@ use Rattle.binding_map.specs.Bindings.{Binding, IsMap}
 use Rattle.binding_map.specs.Completeness.{binding_refusals}
 use Rattle.binding_map.specs.Fits.{is_null_in}
 use Rattle.node_pool.specs.Pools.{Pooled}
-use Rattle.kept_values.specs.Tables.{limits_in}
 use Rattle.shader_tree.specs.Costs.{ids_in, words_in}
 use Rattle.shader_tree.specs.Placed.{is_placed}
 use Rattle.shader_tree.specs.Terms.{Term}
 use Rattle.shader_tree.specs.Trees.{Grown}
-use Rattle.shader_tree.specs.Walks.{holds_no}
-use Rattle.raise_operands.specs.Bounds.{scratch_words}
 use Rattle.raise_program.specs.Parts.{parts_of}
 use Rattle.raise_program.specs.Raised.{raised}
 use Rattle.raise_program.specs.TreeOf.{IsTreeOf, lengths}
@@ -36,7 +33,7 @@ use Rattle.translator.specs.Lowered.{HasRoomFor}
 use Rattle.translator.proofs.clauses.TreeClauses.{TreeClauses}
 use Rattle.translator.proofs.Budget.{code_fits, finishes, ids_fit, rest_fits}
 use Rattle.translator.proofs.LowSteps.{Begins, IsCleared, IsKnown, Writes, code_left, constants_few}
-use Rattle.translator.proofs.LowSteps.{numbers_left, scratch_kept, stays}
+use Rattle.translator.proofs.LowSteps.{numbers_left, stays}
 use Rattle.translator.proofs.Named.{fits, named}
 
 -- THE ROOT of a raised tree stands for what its program is raised to.
@@ -52,7 +49,6 @@ pub record IsReady (p : Shader) (bindings : List Binding) (tree : Grown) (e : Em
   pub set_up : IsSetUp p bindings e
   pub words : 256 * p.words + 8192 ≤ words_left e + declared_words p bindings
   pub ids : 48 * p.words + 4096 ≤ ids_left e + declared_ids p bindings
-  pub scratch : scratch_words ≤ (limits_in e.kept).scratch
 
 pub ready : {p : Shader} {bindings : List Binding} {version : ℕ} {kind : Kind} {t tree : Grown} {e a b : Emission}
     {cs : Pooled Numbered} → IsKnown p bindings → HasRoomFor p.words t e cs → IsCleared e a
@@ -65,7 +61,6 @@ ready {p} {bindings} known room cleared begins raised trees = record {
   set_up = begins.set_up;
   words = code_left known room cleared begins;
   ids = numbers_left known room cleared begins;
-  scratch = scratch_kept known room cleared begins;
 }
 
 module _ {p : Shader} {bindings : List Binding} {tree : Grown} {e : Emission} (r : IsReady p bindings tree e) where
@@ -84,16 +79,14 @@ module _ {p : Shader} {bindings : List Binding} {tree : Grown} {e : Emission} (r
   pub tree_placed : IsTrue (is_placed (root_of tree))
   tree_placed = tree_at.placed
 
-  pub tree_fits : ((f g : Term → Bool) (t : Term) → ((y : Term) → g y ≡ false → f y ≡ false) → IsTrue (holds_no g t)
-      → IsTrue (holds_no f t))
-      → ((q : Shader) (bs : List Binding) (f : Emission) (x : Term) → IsDeclared q → IsMap bs
+  pub tree_fits : ((q : Shader) (bs : List Binding) (f : Emission) (x : Term) → IsDeclared q → IsMap bs
       → binding_refusals q bs ≡ [] → IsSetUp q bs f → IsNamed q bs x → AreThere f x)
       → FitsTree e (root_of tree)
-  tree_fits tests there =
+  tree_fits there =
       let t = tree_at in
       let names = named p bindings (root_of tree) t.names in
-      fits p bindings e (root_of tree) tests t.names t.bounded
-      (there p bindings e (root_of tree) r.known.declared r.known.map r.known.can.bound r.set_up names) r.scratch
+      fits p bindings e (root_of tree) t.names
+      (there p bindings e (root_of tree) r.known.declared r.known.map r.known.can.bound r.set_up names)
 
   words_sum : (version : ℕ) (entries : List Entry) → globals_in entries ≡ globals_in e.symbols.entries
       → declared_words p bindings + length (interface version entries) + 66 + 256 * lengths p.instructions

@@ -8,7 +8,6 @@ use Rattle.word_base.specs.Rules.{IsFirst}
 use Rattle.dxbc_container.specs.Chunks.{IsShex}
 use Rattle.dxbc_container.specs.Refusals.{shex_refusals}
 use Rattle.tpf_decode.specs.Profiles.{Base}
-use Rattle.tpf_decode.specs.Refusals.{header_faults}
 use Rattle.tpf_program.specs.Declarations.{declaration_refusals}
 use Rattle.tpf_program.specs.Faults.{program_faults}
 use Rattle.tpf_program.specs.Nesting.{nesting_refusals}
@@ -18,8 +17,8 @@ use Rattle.tpf_program.specs.Uses.{use_refusals}
 use Rattle.shader_check.specs.Checked.{checked_refusals}
 use Rattle.binding_map.specs.Completeness.{binding_refusals}
 use Rattle.binding_map.specs.Defaults.{default_map}
-use Rattle.translator.specs.Input.{BreaksInput}
-use Rattle.translator.specs.Input.{HasContent, HasProgram, IsBroken, BreaksBindings, BreaksRoom}
+use Rattle.translator.specs.Input.{BreaksInput, BreaksBindings, BreaksRoom}
+use Rattle.translator.specs.Input.{HasContent, HasProgram, IsBroken, NamesWords}
 
 nothing_joined : (a b : List Refusal) → a ++ b ≡ [] → a ≡ []
 nothing_joined [] b e = refl
@@ -52,11 +51,16 @@ module _ (one_content : (bytes a b : List ℕ) → IsShex bytes a → IsShex byt
 
 -- where there is room, and default maps owe no binding
 module _ (bytes : List ℕ) (room : ℕ)
-    (fits : (content : List ℕ) → HasContent bytes content → header_faults (words_of content) ≡ []
-    → slice_index (words_of content) 1 ≤ room)
+    (fits : (n : ℕ) → NamesWords bytes n → n ≤ room)
     (bound : (p : Shader) → declaration_refusals 0 p ≡ [] → binding_refusals p (default_map p) ≡ []) where
   has_room : (r : Refusal) → BreaksRoom room bytes r → ⊥
-  has_room r b = let le = fits b.content b.container b.sound in let lt = b.long in omega (arith, le, lt)
+  has_room r b =
+      let n = slice_index (words_of b.content) 1 in
+      let h : NamesWords bytes n =
+      record { content = b.content; container = b.container; sound = b.sound; words = refl } in
+      let le = fits n h in
+      let lt = b.long in
+      omega (arith, le, lt)
 
   none_unbound : (r : Refusal) → BreaksBindings bytes default_map r → ⊥
   none_unbound r b =

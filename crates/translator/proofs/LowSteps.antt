@@ -12,7 +12,6 @@ use Rattle.node_pool.specs.Pools.{Pooled}
 use Rattle.kept_values.specs.Tables.{limits_in}
 use Rattle.shader_tree.specs.Costs.{words_in}
 use Rattle.shader_tree.specs.Trees.{Grown}
-use Rattle.raise_operands.specs.Bounds.{scratch_words}
 use Rattle.spirv_symbols.specs.declared.numbered.Numbered.{Numbered}
 use Rattle.spirv_symbols.specs.declared.entry.Entry.{Entry}
 use Rattle.spirv_symbols.specs.Contexts.{Context}
@@ -215,11 +214,6 @@ module _ {p : Shader} {bindings : List Binding} (k : IsKnown p bindings) where
 
       pub numbers_left : 48 * p.words + 4096 ≤ ids_left b + declared_ids p bindings
       numbers_left = let h = ids_room in omega (arith, h, begins.ids)
-
-      -- the scratch words that are kept
-      pub scratch_kept : scratch_words ≤ (limits_in b.kept).scratch
-      scratch_kept =
-          subst (λ l. scratch_words ≤ l.scratch) (sym (ap limits_in begins.kept ∙ cleared.kept)) room.scratch
 
 -- WHAT STAYS while the code of a tree is written.
 pub record Stays (old new : Emission) : Type 0 where

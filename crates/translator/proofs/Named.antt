@@ -1,8 +1,7 @@
 -- What the raised tree of a program names is there: two spellings of one test lead to the same answer.
-use Rattle.std.proofs.Common.{◌≡◌, ℕ, ◌≤◌, Bool, true, false, List, [], ◌∷◌, refl, ap, arith}
-use Rattle.std.specs.Prelude.{nat_lt, not, ◌&&◌, ◌||◌, IsTrue, Ok}
+use Rattle.std.proofs.Common.{◌≡◌, ℕ, Bool, true, false, List, [], ◌∷◌, refl, ap}
+use Rattle.std.specs.Prelude.{not, ◌&&◌, ◌||◌, IsTrue, Ok}
 use Rattle.std.specs.List.{list_any}
-use Rattle.std.proofs.lemmas.Bool.Decides.{nat_tests}
 use Rattle.word_base.specs.declared.event.Room.{Room}
 use Rattle.word_base.specs.declared.event.Room.TheVariants as room
 use Rattle.tpf_decode.specs.declared.argument.Kind.{Kind}
@@ -13,20 +12,16 @@ use Rattle.tpf_program.specs.Program.{Shader}
 use Rattle.spirv_words.specs.Memory.{takes_stores}
 use Rattle.binding_map.specs.Bindings.{Binding}
 use Rattle.binding_map.specs.Fits.{is_null_in}
-use Rattle.kept_values.specs.Tables.{Limits, limits_in}
 use Rattle.shader_tree.specs.declared.node.Space.{Space}
 use Rattle.shader_tree.specs.declared.node.Space.TheVariants as space
-use Rattle.shader_tree.specs.Holding.{is_long}
 use Rattle.shader_tree.specs.Terms.{Term}
-use Rattle.shader_tree.specs.Terms as term
-use Rattle.shader_tree.specs.Walks.{Each, changed_in, holds_no, rooms_in, spaces_in, threads_in}
-use Rattle.raise_operands.specs.Bounds.{IsBounded, is_unbounded, scratch_words}
+use Rattle.shader_tree.specs.Walks.{Each, changed_in, rooms_in, spaces_in, threads_in}
 use Rattle.raise_operands.specs.Raises.{HasThread}
 use Rattle.raise_operands.specs.Raises as raises
 use Rattle.raise_program.specs.TreeOf.{NamesOf}
 use Rattle.spirv_emit.specs.Begun.{IsSpaceThere}
 use Rattle.spirv_emit.specs.declared.emitter.Emitter.{Emitter as Emission}
-use Rattle.spirv_flow.specs.Emitting.{FitsTree, IsSpaceNamed, is_unheld}
+use Rattle.spirv_flow.specs.Emitting.{FitsTree, IsSpaceNamed}
 use Rattle.spirv_setup.specs.Named as setup
 use Rattle.spirv_setup.specs.Named.{IsNamed}
 use Rattle.spirv_setup.specs.Unopened.{AreThere}
@@ -80,32 +75,14 @@ space_named e (space.Indexable slot) h = h (λ q. absurd (cc q))
 space_named e (space.Constant slot) h = h (λ q. absurd (cc q))
 space_named e space.ImmediateConstant h = h (λ q. absurd (cc q))
 
--- SCRATCH WORDS that get a value are kept as ids where so many are.
-below_too : (n most : ℕ) → scratch_words ≤ most → not (nat_lt n scratch_words) ≡ false → not (nat_lt n most) ≡ false
-below_too n most h e = grind (arith, nat_tests)
-
-held_there : (l : Limits) → scratch_words ≤ l.scratch → (t : Term) → is_unbounded t ≡ false → is_unheld l t ≡ false
-held_there l h (term.Set n v) e = below_too n l.scratch h e
-held_there l h (term.Load n r at) e = below_too n l.scratch h e
-held_there l h (term.Atomic n r at kind a b) e = below_too n l.scratch h e
-held_there l h t e = refl
-
-short_there : (t : Term) → is_unbounded t ≡ false → is_long t ≡ false
-short_there (term.Word w) e = e
-short_there t e = refl
-
 -- WHAT THE TREE HOLDS is there before the function is opened for it.
 pub fits : (p : Shader) (bindings : List Binding) (e : Emission) (x : Term)
-    → ((f g : Term → Bool) (t : Term) → ((y : Term) → g y ≡ false → f y ≡ false) → IsTrue (holds_no g t)
-    → IsTrue (holds_no f t))
-    → NamesOf p bindings x → IsBounded x → AreThere e x → scratch_words ≤ (limits_in e.kept).scratch → FitsTree e x
-fits p bindings e x tests n bounded there enough = record {
+    → NamesOf p bindings x → AreThere e x → FitsTree e x
+fits p bindings e x n there = record {
   spaces = each_by (λ s. (s ≡ space.Temps → ⊥) → IsSpaceThere e s) (IsSpaceNamed e) (spaces_in x) (space_named e)
       there.spaces;
   rooms = there.rooms;
   threads = there.threads;
-  held = tests (is_unheld (limits_in e.kept)) is_unbounded x (held_there (limits_in e.kept) enough) bounded;
   changed = each_room _ (λ r. takes_stores r ≡ Ok 0) (changed_in x) (λ slot h. absurd (cc h)) (λ slot h. refl)
       (λ slot h. refl) (λ slot h. refl) n.changed;
-  literals = tests is_long is_unbounded x short_there bounded;
 }

@@ -1,6 +1,8 @@
 -- The bytes of words, one by one and in pieces.
-use Rattle.std.proofs.Common.{◌≡◌, ℕ, zero, suc, ◌+◌, ◌*◌, ◌/◌, ◌%◌, ◌^◌, ◌<◌, ◌≤◌, List, [], ◌∷◌, length, refl, sym, ap, ◌∙◌, arith, take, drop}
+use Rattle.std.proofs.Common.{◌≡◌, ℕ, zero, suc, ◌+◌, ◌*◌, ◌-◌, ◌/◌, ◌%◌, ◌^◌, ◌<◌, ◌≤◌, ⊎_elim, List, [], ◌∷◌, length, refl, sym, ap, ◌∙◌, arith, take, drop}
 use Rattle.std.specs.Prelude.{bit_and, slice_get, slice_index, Some}
+use Rattle.std.proofs.lemmas.Bool.{cases_lt}
+use Rattle.std.proofs.lemmas.List.{drop-drop}
 use Rattle.std.proofs.lemmas.Nat.{and_mask}
 use Rattle.std.proofs.lemmas.Option.{get_or_from_slice_get}
 use Rattle.word_base.specs.Words.{bytes_of}
@@ -64,3 +66,37 @@ pub byte_taken : (ws : List ℕ) (place w : ℕ) → slice_get ws (place / 4) �
 byte_taken ws place w e =
     and_mask (w / 2 ^ (8 * (place % 4))) 8
     ∙ ap (λ x. x / 2 ^ (8 * (place % 4)) % 256) (sym (get_or_from_slice_get ws (place / 4) w 0 e))
+
+-- a word's byte, among those of the words that it is one of
+byte_within : (ws : List ℕ) (i w k : ℕ) → slice_get ws i ≡ Some w → k < 4 → byte_of (w ∷ []) k ≡ byte_of ws (4 * i + k)
+byte_within ws i w k e l =
+    let z : k / 4 ≡ 0 = omega arith in
+    let q : (4 * i + k) / 4 ≡ i = omega arith in
+    let r : (4 * i + k) % 4 ≡ k % 4 = omega arith in
+    ap (λ n. slice_index (w ∷ []) n / 2 ^ (8 * (k % 4)) % 256) z
+    ∙ (ap (λ x. x / 2 ^ (8 * (k % 4)) % 256) (sym (get_or_from_slice_get ws i w 0 e))
+    ∙ (ap (λ n. slice_index ws n / 2 ^ (8 * (k % 4)) % 256) (sym q)
+    ∙ ap (λ n. slice_index ws ((4 * i + k) / 4) / 2 ^ (8 * n) % 256) (sym r)))
+
+-- One word more stands in a piece, behind the words from a FIRST one on.
+pub word_more : (ws piece longer : List ℕ) (first i w : ℕ) → first ≤ i → slice_get ws i ≡ Some w
+    → ((k : ℕ) → k < 4 * (i - first) → slice_index piece k ≡ byte_of ws (4 * first + k))
+    → ((k : ℕ) → k < 4 * (i - first) → slice_index longer k ≡ slice_index piece k)
+    → ((k : ℕ) → k < 4 → slice_index longer (4 * (i - first) + k) ≡ byte_of (w ∷ []) k)
+    → (k : ℕ) → k < 4 * (i + 1 - first) → slice_index longer k ≡ byte_of ws (4 * first + k)
+word_more ws piece longer first i w o e front before bytes k l =
+    ⊎_elim (λ (m : k < 4 * (i - first)). before k m ∙ front k m)
+    (λ (m : 4 * (i - first) ≤ k).
+    let j = k - 4 * (i - first) in
+    let s : j < 4 = omega arith in
+    let p : k ≡ 4 * (i - first) + j = omega arith in
+    let q : 4 * i + j ≡ 4 * first + k = omega arith in
+    ap (slice_index longer) p ∙ (bytes j s ∙ (byte_within ws i w j e s ∙ ap (byte_of ws) q)))
+    (cases_lt k (4 * (i - first)))
+
+-- and nothing has changed behind it
+pub same_behind : (was piece longer : List ℕ) (n m : ℕ) → m ≡ n + 4
+    → drop n piece ≡ drop n was → drop (n + 4) longer ≡ drop (n + 4) piece → drop m longer ≡ drop m was
+same_behind was piece longer n m e s t =
+    ap (λ k. drop k longer) e
+    ∙ (t ∙ (sym (drop-drop 4 n piece) ∙ (ap (drop 4) s ∙ (drop-drop 4 n was ∙ ap (λ k. drop k was) (sym e)))))

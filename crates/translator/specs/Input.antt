@@ -21,6 +21,13 @@ pub record HasContent (bytes content : List ℕ) : Type 0 where
   pub sound : shex_refusals bytes ≡ []
   pub chunk : IsShex bytes content
 
+-- The container breaks no rule, nor does the head of its program, and that names so many words.
+pub record NamesWords (bytes : List ℕ) (n : ℕ) : Type 0 where
+  pub content : List ℕ
+  pub container : HasContent bytes content
+  pub sound : header_faults (words_of content) ≡ []
+  pub words : slice_index (words_of content) 1 ≡ n
+
 -- the data break no rule of the head and the tokens, and spell this program
 pub record HasProgram (bytes : List ℕ) (p : Shader) : Type 0 where
   pub content : List ℕ

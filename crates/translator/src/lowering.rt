@@ -7,7 +7,7 @@ ghost use Rattle.spirv_emit.specs.Finished.{text_of};
 ghost use Rattle.translator.specs.Lowered.{CanBeLowered, HasRoomFor, KeepsRoom, Lowered};
 
 use binding_map::Bindings;
-use raise_program::{raise, raised_tree_laws, test_laws};
+use raise_program::{raise, raised_tree_laws};
 use shader_tree::Tree;
 use spirv_emit::Emitter;
 use spirv_flow::emit_tree;
@@ -59,7 +59,6 @@ pub(crate) fn lower(
     raised_tree_laws();
     setup_laws();
     sum_laws();
-    test_laws();
     tree.clear();
     emitter.clear();
     raise(tree, program, bindings);

@@ -36,6 +36,15 @@ fn container(alloc: Global, tokens: &[u32]) -> Result<Vec<u8>, NoMemory> {
     build(alloc, &tokens[..tokens.len().min(100)])
 }
 
+/// The words of a module.
+fn words_of(alloc: Global, view: &ModuleView) -> Vec<u32> {
+    let mut words = Vec::new(alloc);
+    for i in 0..view.len() {
+        let _ = words.push(view.word(i));
+    }
+    words
+}
+
 /// The words of the module of a container, or its first broken rule.
 fn translated(
     work: &mut Workspace,
@@ -44,12 +53,43 @@ fn translated(
     bindings: &Bindings,
     version: Version,
 ) -> Result<Vec<u32>, Refusal> {
-    let mut words = Vec::new(alloc);
     let view = translate(work, &bytes[..bytes.len().min(1000)], bindings, version)?;
-    for i in 0..view.len() {
-        let _ = words.push(view.word(i));
-    }
-    Ok(words)
+    Ok(words_of(alloc, &view))
+}
+
+/// The first broken rule of a container.
+fn broken(
+    work: &mut Workspace,
+    alloc: Global,
+    bytes: &[u8],
+    bindings: &Bindings,
+    version: Version,
+) -> Option<Refusal> {
+    translated(work, alloc, bytes, bindings, version).err()
+}
+
+/// The first broken rule of a container in a workspace for programs of so many words, and the words of the workspace.
+fn broken_in(
+    alloc: Global,
+    room: u32,
+    bytes: &[u8],
+    bindings: &Bindings,
+) -> Result<(Option<Refusal>, u32), NoMemory> {
+    let mut work = Workspace::make(alloc, room.min(100))?;
+    let broken = broken(&mut work, alloc, bytes, bindings, Version::V13);
+    Ok((broken, work.words()))
+}
+
+/// The same of a program of a few words, under the map of a text.
+fn first_broken(
+    alloc: Global,
+    tokens: &[u32],
+    room: u32,
+    text: &str,
+) -> Result<(Option<Refusal>, u32), NoMemory> {
+    let bytes = container(alloc, tokens)?;
+    let map = map(alloc, text.as_bytes())?;
+    broken_in(alloc, room, &bytes, &map)
 }
 
 /// The rule with its place.
@@ -70,36 +110,113 @@ fn first_broken_rules(rt: HostRuntime) -> Result<(), Fail> {
         (&STORE, 17, "", None),
     ];
     for (tokens, room, text, broken) in rows {
-        let bytes = container(rt.alloc(), tokens)?;
-        let map = map(rt.alloc(), text.as_bytes())?;
-        let mut work = Workspace::make(rt.alloc(), room.min(100))?;
-        let answer = translated(&mut work, rt.alloc(), &bytes, &map, Version::V13);
-        assert_eq!(rt; answer.err(), broken);
-        assert_eq!(rt; work.words(), room);
+        let (answer, words) = first_broken(rt.alloc(), tokens, room, text)?;
+        assert_eq!(rt; answer, broken);
+        assert_eq!(rt; words, room);
     }
     Ok(())
+}
+
+/// What a workspace gave for a program that breaks a rule, and then for the smallest one.
+#[derive(Clone, Copy)]
+struct Outcome {
+    /// The rule.
+    broken: Option<Refusal>,
+    /// Whether the module is that of the other workspace.
+    same: bool,
+    /// The word of the module that says its version.
+    version: Option<u32>,
+}
+
+/// Whether two answers are the same module, and its word for the version.
+fn compared(
+    words: Result<Vec<u32>, Refusal>,
+    others: Result<Vec<u32>, Refusal>,
+) -> (bool, Option<u32>) {
+    match (words, others) {
+        (Ok(words), Ok(others)) => (words.as_slice() == others.as_slice(), words.get(1).copied()),
+        _ => (false, None),
+    }
+}
+
+/// The containers of two programs, the first of which breaks a rule, and the map of both.
+#[derive(Drop)]
+struct Inputs {
+    refused: Vec<u8>,
+    smallest: Vec<u8>,
+    map: Bindings,
+}
+
+/// The programs are translated in a workspace, and the second in another one.
+fn seen(
+    alloc: Global,
+    work: &mut Workspace,
+    other: &mut Workspace,
+    given: &Inputs,
+    version: Version,
+) -> Outcome {
+    let broken = broken(work, alloc, &given.refused, &given.map, version);
+    let words = translated(work, alloc, &given.smallest, &given.map, version);
+    let others = translated(other, alloc, &given.smallest, &given.map, version);
+    let (same, number) = compared(words, others);
+    Outcome {
+        broken,
+        same,
+        version: number,
+    }
+}
+
+/// What is seen in two workspaces, in both versions, one after the other.
+fn seen_twice(
+    alloc: Global,
+    work: &mut Workspace,
+    other: &mut Workspace,
+    given: &Inputs,
+) -> (Outcome, Outcome) {
+    let first = seen(alloc, work, other, given, Version::V13);
+    let second = seen(alloc, work, other, given, Version::V14);
+    (first, second)
+}
+
+/// The same, where the other workspace is made.
+fn seen_beside(
+    alloc: Global,
+    work: &mut Workspace,
+    given: &Inputs,
+) -> Result<(Outcome, Outcome), NoMemory> {
+    let mut other = Workspace::make(alloc, 7)?;
+    Ok(seen_twice(alloc, work, &mut other, given))
+}
+
+/// The same, where both are made.
+fn seen_in_two(alloc: Global, given: &Inputs) -> Result<(Outcome, Outcome), NoMemory> {
+    let mut work = Workspace::make(alloc, 15)?;
+    seen_beside(alloc, &mut work, given)
+}
+
+/// The containers that are given, and an empty map.
+fn given(alloc: Global) -> Result<Inputs, NoMemory> {
+    Ok(Inputs {
+        refused: container(alloc, &NEGATED_MOVE)?,
+        smallest: container(alloc, &SMALLEST)?,
+        map: map(alloc, &[])?,
+    })
+}
+
+/// What is seen in two workspaces of the programs that are given.
+fn used_again(alloc: Global) -> Result<(Outcome, Outcome), NoMemory> {
+    let given = given(alloc)?;
+    seen_in_two(alloc, &given)
 }
 
 /// One workspace: a refusal, and then the module that a fresh workspace gives, in both versions.
 #[test]
 fn a_workspace_is_used_again(rt: HostRuntime) -> Result<(), Fail> {
-    let smallest = container(rt.alloc(), &SMALLEST)?;
-    let refused = container(rt.alloc(), &NEGATED_MOVE)?;
-    let map = map(rt.alloc(), &[])?;
-    let mut work = Workspace::make(rt.alloc(), 15)?;
-    let mut fresh = Workspace::make(rt.alloc(), 7)?;
-    for (version, number) in [(Version::V13, 0x0001_0300), (Version::V14, 0x0001_0400)] {
-        let broken = translated(&mut work, rt.alloc(), &refused, &map, version);
-        assert_eq!(rt; broken.err(), rule(Rule::K10, 12));
-        let words = translated(&mut work, rt.alloc(), &smallest, &map, version);
-        let expected = translated(&mut fresh, rt.alloc(), &smallest, &map, version);
-        match (words, expected) {
-            (Ok(words), Ok(expected)) => {
-                assert_eq!(rt; words.as_slice(), expected.as_slice());
-                assert_eq!(rt; words.get(1).copied(), Some(number));
-            }
-            _ => assert!(rt; false),
-        }
+    let (first, second) = used_again(rt.alloc())?;
+    for (seen, number) in [(first, 0x0001_0300), (second, 0x0001_0400)] {
+        assert_eq!(rt; seen.broken, rule(Rule::K10, 12));
+        assert!(rt; seen.same);
+        assert_eq!(rt; seen.version, Some(number));
     }
     Ok(())
 }

@@ -77,7 +77,7 @@ emit_tree-requires-clause-fits c =
     begins_by b.set_up b.code b.kept b.limit b.kind b.words b.ids b.declared b.immediates b.buffers in
     let trees : TreeClauses = record { holds = c.raised_tree_laws.ensures } in
     let done = ready program c.requires.room cleared begins c.raise.ensures.raised trees in
-    tree_fits done c.test_laws.ensures c.placed_laws.ensures.named
+    tree_fits done c.placed_laws.ensures.named
 
 pub emit_tree-requires-clause-placed : goal.emit_tree-requires-clause-placed
 emit_tree-requires-clause-placed c =
