@@ -1,7 +1,11 @@
 -- What is printed of a rule: its name and its text.
 use Rattle.std.specs.Prelude.{ℕ, List, codes}
 use Rattle.word_base.specs.declared.rule.Rule.{Rule}
-use Rattle.word_base.specs.declared.rule.Rule.TheVariants.{M1, C1, C2, C3, C4, C5, C6, C7, C8, C9, K1, K2, M2, M4, K3, K4, K5, K6, K7, K8, K9, K10, K11, K12, K13, K14, K15, L1, L2, L3, L4, L5, L6, L7, L8, S1, S2, S3, S4, S5, S6, S7, S8, S9, M3, G1, G2, G3, G4, G5, G6, B1, B2, B3, X1, X2, X3, X4, X5}
+use Rattle.word_base.specs.declared.rule.Rule.TheVariants.{M1, C1, C2, C3, C4, C5, C6, C7, C8, C9, K1, K2, M2, M4, K3}
+use Rattle.word_base.specs.declared.rule.Rule.TheVariants.{K4, K5, K6, K7, K8, K9, K10, K11, K12, K13, K14, K15, L1}
+use Rattle.word_base.specs.declared.rule.Rule.TheVariants.{L2, L3, L4, L5, L6, L7, L8, S1, S2, S3, S4, S5, S6, S7, S8}
+use Rattle.word_base.specs.declared.rule.Rule.TheVariants.{S9, M3, G1, G2, G3, G4, G5, G6, B1, B2, B3, X1, X2, X3, X4}
+use Rattle.word_base.specs.declared.rule.Rule.TheVariants.{X5}
 
 pub record Printed : Type 0 where
   pub name : List ℕ

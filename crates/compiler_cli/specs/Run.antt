@@ -1,5 +1,6 @@
 -- What a run of the program leaves: on the desk, on the stream of the output, and on that of errors.
-use Rattle.std.specs.Prelude.{◌≡◌, ℕ, ◌<◌, ◌≤◌, ◌⊎◌, true, List, [], ◌∷◌, ◌++◌, Option, Some, None, Result, Ok, Err, length, take}
+use Rattle.std.specs.Prelude.{◌≡◌, ℕ, ◌<◌, ◌≤◌, ◌⊎◌, true, List, [], ◌∷◌, ◌++◌, length, take}
+use Rattle.std.specs.Prelude.{Option, Some, None, Result, Ok, Err}
 use Rattle.std.specs.Bool.{MatchBool}
 use Rattle.word_base.specs.declared.rule.Refusal.{Refusal}
 use Rattle.word_base.specs.Rules.{IsFirst, IsSound}
@@ -27,8 +28,8 @@ outside desk out faults = record { desk = desk; out = out; faults = faults }
 abbrev pub IsFirstIn : Job → Option (List File) → Refusal → Type 0
 IsFirstIn job files r = AreTold files → IsFirst (BreaksIn job files) r
 
--- A JOB CAN BE DONE with these bytes: its files are there, no rule is broken, and the bytes are its whole output, where the
--- desk tells its files.
+-- A JOB CAN BE DONE with these bytes: its files are there, no rule is broken, and the bytes are its whole output, where
+-- the desk tells its files.
 pub record HasOutput (job : Job) (files : Option (List File)) (bytes : List ℕ) : Type 0 where
   pub there : LacksFile job files → ⊥
   pub sound : IsSound (BreaksIn job files)
@@ -58,7 +59,8 @@ pub record ToDesk (name : List ℕ) (old new : Told) (out out' : Option (List �
 
 -- these bytes were written to the output of that name, and nothing elsewhere
 abbrev pub Delivers : List ℕ → Told → Told → Option (List ℕ) → Option (List ℕ) → List ℕ → Type 0
-Delivers name old new out out' bytes = MatchBool (is_stream name) (ToStream old new out out' bytes) (ToDesk name old new out out' bytes)
+Delivers name old new out out' bytes =
+    MatchBool (is_stream name) (ToStream old new out out' bytes) (ToDesk name old new out out' bytes)
 
 -- a front of these bytes was written, or nothing at all
 abbrev pub DeliversPart : List ℕ → Told → Told → Option (List ℕ) → Option (List ℕ) → List ℕ → Type 0
@@ -67,9 +69,11 @@ DeliversPart name old new out out' bytes =
 
 -- What writing the bytes of an output leaves.
 abbrev pub DeliversBy : {E : Type 0} → List ℕ → Outside → Outside → List ℕ → Result Unit E → Type 0
-DeliversBy name old new bytes (Ok u) = Delivers name old.desk new.desk old.out new.out bytes × (new.desk.left ≡ old.desk.left)
+DeliversBy name old new bytes (Ok u) =
+    Delivers name old.desk new.desk old.out new.out bytes × (new.desk.left ≡ old.desk.left)
 DeliversBy name old new bytes (Err e) =
-    DeliversPart name old.desk new.desk old.out new.out bytes × (Rose old.desk.faults new.desk.faults ⊎ Rose old.faults new.faults)
+    DeliversPart name old.desk new.desk old.out new.out bytes
+    × (Rose old.desk.faults new.desk.faults ⊎ Rose old.faults new.faults)
 
 -- How a job ends. Its whole output was written, and nothing elsewhere.
 pub record Succeeds (job : Job) (old new : Outside) : Type 0 where
@@ -113,7 +117,9 @@ stream written faults = record { written = written; faults = faults }
 
 -- a line was written whole, unless a fault was counted, and then a front of it
 abbrev pub Reports : Stream → Stream → List ℕ → Type 0
-Reports old new line = Gained old.written new.written line ⊎ (GainedPart old.written new.written line × Rose old.faults new.faults)
+Reports old new line =
+    Gained old.written new.written line
+    ⊎ (GainedPart old.written new.written line × Rose old.faults new.faults)
 
 -- the status and the line of a failure
 abbrev pub status_of : Failure → Status
@@ -138,10 +144,12 @@ RefusedBy old new err err' job = (r : Refusal) × Refuses job old new r × Repor
 abbrev pub Answers : List (List ℕ) → Outside → Outside → Stream → Stream → Status → Type 0
 Answers words old new err err' status.Ok = Answered words (λ job. Succeeds job old new) × (err'.written ≡ err.written)
 Answers words old new err err' status.Refused = Answered words (RefusedBy old new err err')
-Answers words old new err err' status.Usage = (job_of words ≡ None) × Untouched old.desk new.desk old.out new.out × Reports err err' usage_line
+Answers words old new err err' status.Usage =
+    (job_of words ≡ None) × Untouched old.desk new.desk old.out new.out × Reports err err' usage_line
 Answers words old new err err' status.Fault =
     Answered words (λ job. FaultsReading job old new ⊎ FaultsWriting job old new) × Reports err err' fault_line
-Answers words old new err err' status.NoMemory = Untouched old.desk new.desk old.out new.out × Reports err err' memory_line
+Answers words old new err err' status.NoMemory =
+    Untouched old.desk new.desk old.out new.out × Reports err err' memory_line
 
 -- Want of memory may come in place of any answer.
 abbrev pub IsOrWantsMemory : Status → Status → Type 0
@@ -154,7 +162,8 @@ pub record IsUsage (words : List (List ℕ)) (result : Status) : Type 0 where
 
 -- Where a rule is broken, the run is refused, unless memory or the desk failed.
 abbrev pub IsRefused : Outside → Outside → Status → Type 0
-IsRefused old new result = (result ≡ status.Refused) ⊎ ((result ≡ status.NoMemory) ⊎ Rose old.desk.faults new.desk.faults)
+IsRefused old new result =
+    (result ≡ status.Refused) ⊎ ((result ≡ status.NoMemory) ⊎ Rose old.desk.faults new.desk.faults)
 
 -- Nothing hinders a job: the desk tells its files, they are there, no rule is broken, and no fault was counted.
 pub record IsFree (job : Job) (old new : Outside) : Type 0 where

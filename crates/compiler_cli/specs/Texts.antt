@@ -9,7 +9,9 @@ use Rattle.compiler_cli.specs.Printed.{printed}
 
 abbrev pub refusal_line : Refusal → List ℕ
 refusal_line r =
-    codes "vkd3d-compiler: " ++ ((printed r.rule).name ++ (codes " at " ++ (decimal r.place ++ (codes ": " ++ ((printed r.rule).text ++ codes "\n")))))
+    codes "vkd3d-compiler: "
+    ++ ((printed r.rule).name
+    ++ (codes " at " ++ (decimal r.place ++ (codes ": " ++ ((printed r.rule).text ++ codes "\n")))))
 
 abbrev pub usage_line : List ℕ
 usage_line = codes "vkd3d-compiler: wrong words\n"

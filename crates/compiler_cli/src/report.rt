@@ -25,7 +25,8 @@ fn write_parts<K: Sink>(sink: &mut K, parts: &[&str]) -> Result<(), Failed>
 /// Writes the line of words that ask for nothing.
 pub(crate) fn report_usage<K: Sink>(sink: &mut K) -> Status
     ensures status { result ≡ Status.Usage }
-    ensures line { Reports (stream (K.written sink.old) (K.faults sink.old)) (stream (K.written sink.new) (K.faults sink.new)) usage_line }
+    ensures line { Reports
+        (stream (K.written sink.old) (K.faults sink.old)) (stream (K.written sink.new) (K.faults sink.new)) usage_line }
 {
     let _ = write_piece(sink, b"vkd3d-compiler: wrong words\n");
     Status::Usage
@@ -34,7 +35,9 @@ pub(crate) fn report_usage<K: Sink>(sink: &mut K) -> Status
 /// Writes the line of a failure, and gives its status.
 pub(crate) fn report<K: Sink>(sink: &mut K, failure: Failure) -> Status
     ensures status { result ≡ status_of failure }
-    ensures line { Reports (stream (K.written sink.old) (K.faults sink.old)) (stream (K.written sink.new) (K.faults sink.new)) (line_of failure) }
+    ensures line { Reports
+        (stream (K.written sink.old) (K.faults sink.old)) (stream (K.written sink.new) (K.faults sink.new))
+        (line_of failure) }
 {
     match failure {
         Failure::Refused(refusal) => {

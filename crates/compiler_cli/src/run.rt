@@ -10,7 +10,8 @@ ghost use Rattle.command_line.specs.Shown.{choice_shown, job_shown};
 ghost use Rattle.translator.specs.Shown.{module_words};
 ghost use Rattle.compiler_cli.specs.Output.{BreaksIn, LacksBindingFile, LacksFile};
 ghost use Rattle.compiler_cli.specs.Parts.{Came, FailsToCome, HasBindingsCome};
-ghost use Rattle.compiler_cli.specs.Run.{Answers, DeliversBy, Ends, IsFree, IsOrWantsMemory, IsRefused, IsUsage, outside as seen, stream};
+ghost use Rattle.compiler_cli.specs.Run.{Answers, DeliversBy, Ends, IsFree, IsOrWantsMemory, IsRefused, IsUsage};
+ghost use Rattle.compiler_cli.specs.Run.{outside as seen, stream};
 ghost use Rattle.compiler_cli.specs.Streams.{NothingLeft, StoppedBy, most_read};
 
 use crate::failure::{Failure, Status};
@@ -50,14 +51,18 @@ pub fn run<D: Desk, O: Sink, E: Sink>(
 ) -> Status
     ensures usage { IsUsage (texts_of words.now) result }
     ensures answer { Answers (texts_of words.now)
-        (seen (D.told desk.old) (O.written out.old) (O.faults out.old)) (seen (D.told desk.new) (O.written out.new) (O.faults out.new))
+        (seen (D.told desk.old) (O.written out.old) (O.faults out.old))
+        (seen (D.told desk.new) (O.written out.new) (O.faults out.new))
         (stream (E.written err.old) (E.faults err.old)) (stream (E.written err.new) (E.faults err.new)) result }
-    ensures missing { (job : Job) → job_of (texts_of words.now) ≡ Some job → LacksFile job (D.told desk.old).files
-        → IsOrWantsMemory Status.Fault result }
-    ensures refused { (job : Job) (r : Refusal) → job_of (texts_of words.now) ≡ Some job → IsFirst (BreaksIn job (D.told desk.old).files) r
-        → IsRefused (seen (D.told desk.old) (O.written out.old) (O.faults out.old)) (seen (D.told desk.new) (O.written out.new) (O.faults out.new)) result }
+    ensures missing { (job : Job) → job_of (texts_of words.now) ≡ Some job
+        → LacksFile job (D.told desk.old).files → IsOrWantsMemory Status.Fault result }
+    ensures refused { (job : Job) (r : Refusal) → job_of (texts_of words.now) ≡ Some job
+        → IsFirst (BreaksIn job (D.told desk.old).files) r
+        → IsRefused (seen (D.told desk.old) (O.written out.old) (O.faults out.old))
+        (seen (D.told desk.new) (O.written out.new) (O.faults out.new)) result }
     ensures complete { (job : Job) → job_of (texts_of words.now) ≡ Some job
-        → IsFree job (seen (D.told desk.old) (O.written out.old) (O.faults out.old)) (seen (D.told desk.new) (O.written out.new) (O.faults out.new))
+        → IsFree job (seen (D.told desk.old) (O.written out.old) (O.faults out.old))
+        (seen (D.told desk.new) (O.written out.new) (O.faults out.new))
         → IsOrWantsMemory Status.Ok result }
 {
     answer(alloc, words, desk, out, err)
@@ -72,7 +77,8 @@ fn answer<D: Desk, O: Sink, E: Sink>(
     err: &mut E,
 ) -> Status
     ensures { Answers (texts_of words.now)
-        (seen (D.told desk.old) (O.written out.old) (O.faults out.old)) (seen (D.told desk.new) (O.written out.new) (O.faults out.new))
+        (seen (D.told desk.old) (O.written out.old) (O.faults out.old))
+        (seen (D.told desk.new) (O.written out.new) (O.faults out.new))
         (stream (E.written err.old) (E.faults err.old)) (stream (E.written err.new) (E.faults err.new)) result }
 {
     let command = match read_words(alloc, words) {
@@ -94,7 +100,8 @@ fn perform<D: Desk, O: Sink>(
     command: Command,
 ) -> Result<(), Failure>
     ensures { Ends (job_shown command.entry)
-        (seen (D.told desk.old) (O.written out.old) (O.faults out.old)) (seen (D.told desk.new) (O.written out.new) (O.faults out.new)) result }
+        (seen (D.told desk.old) (O.written out.old) (O.faults out.old))
+        (seen (D.told desk.new) (O.written out.new) (O.faults out.new)) result }
 {
     match read_files(alloc, desk, command) {
         Ok(files) => {
@@ -121,10 +128,12 @@ fn read_bindings<D: Desk>(
     choice: BindingChoice,
 ) -> Result<Vec<u8>, Stop>
     ensures whole { IfOk result (λ b. HasBindingsCome (D.told desk.old).files (choice_shown choice.entry) b.items) }
-    ensures ended { IfOk result (λ b. length b.items < most_read → NothingLeft (D.told desk.old).left → NothingLeft (D.told desk.new).left) }
+    ensures ended { IfOk result (λ b. length b.items < most_read
+        → NothingLeft (D.told desk.old).left → NothingLeft (D.told desk.new).left) }
     ensures quiet { OnOk result ((D.told desk.new).faults ≡ (D.told desk.old).faults) }
     ensures failed { IfErr result (λ e. StoppedBy e
-        (Rose (D.told desk.old).faults (D.told desk.new).faults ⊎ LacksBindingFile (D.told desk.old).files (choice_shown choice.entry))) }
+        (Rose (D.told desk.old).faults (D.told desk.new).faults
+        ⊎ LacksBindingFile (D.told desk.old).files (choice_shown choice.entry))) }
     ensures kept { KeepsOutputs (D.told desk.old) (D.told desk.new) }
 {
     match choice {
@@ -136,7 +145,8 @@ fn read_bindings<D: Desk>(
 
 /// Reads the files of a command. It is refused where one of them has too many bytes.
 fn read_files<D: Desk>(alloc: Global, desk: &mut D, command: Command) -> Result<Files, Failure>
-    ensures came { IfOk result (λ f. Came (job_shown command.entry) (D.told desk.old) (D.told desk.new) f.input.items f.bindings.items) }
+    ensures came { IfOk result (λ f.
+        Came (job_shown command.entry) (D.told desk.old) (D.told desk.new) f.input.items f.bindings.items) }
     ensures failed { IfErr result (FailsToCome (job_shown command.entry) (D.told desk.old) (D.told desk.new)) }
     ensures kept { KeepsOutputs (D.told desk.old) (D.told desk.new) }
 {
@@ -175,7 +185,8 @@ pub(crate) fn deliver<D: Desk, O: Sink>(
     buffer: &mut [u8; PIECE],
 ) -> Result<(), Failed>
     ensures { DeliversBy name.now
-        (seen (D.told desk.old) (O.written out.old) (O.faults out.old)) (seen (D.told desk.new) (O.written out.new) (O.faults out.new))
+        (seen (D.told desk.old) (O.written out.old) (O.faults out.old))
+        (seen (D.told desk.new) (O.written out.new) (O.faults out.new))
         (bytes_of (module_words view.now)) result }
 {
     if is_stream(name) {

@@ -62,7 +62,8 @@ pub(crate) fn translate_to<D: Desk, O: Sink>(
 ) -> Result<(), Failure>
     requires taken { AreTaken input.now file.now }
     ensures { Translates (job_shown command.entry)
-        (seen (D.told desk.old) (O.written out.old) (O.faults out.old)) (seen (D.told desk.new) (O.written out.new) (O.faults out.new))
+        (seen (D.told desk.old) (O.written out.old) (O.faults out.old))
+        (seen (D.told desk.new) (O.written out.new) (O.faults out.new))
         input.now file.now result }
 {
     input_laws();

@@ -1,4 +1,4 @@
-use Rattle.std.proofs.Common.{ℕ, subst}
+use Rattle.std.proofs.Common.{◌≡◌, ℕ, subst, arith}
 use Rattle.word_base.specs.Rules.{IsFirst}
 use Rattle.word_base.specs.Words.{bytes_of}
 use Rattle.tpf_program.specs.Program.{Shader}
@@ -23,7 +23,9 @@ returns-in-Err g c =
     c.in-Err.refusal
     (first_of_input (choice_shown c.args.command.bindings) input c.args.file.now c.requires.taken
     (c.input_laws.ensures.sound input) c.in-Err.refusal
-    (c.input_laws.ensures.first input c.room_for.result c.room_for.ensures.words c.in-Err.refusal first))
+    (c.input_laws.ensures.first input c.room_for.result
+    (λ (n : ℕ) h. let e : c.room_for.result ≡ n = c.room_for.ensures.named n h in omega (arith, e)) c.in-Err.refusal
+    first))
 
 pub returns-in-Err-map_for : goal.returns-in-Err-map_for
 returns-in-Err-map_for g c =
