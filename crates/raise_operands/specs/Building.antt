@@ -146,6 +146,10 @@ pub record IsOperand (nodes : List Node) (g : Spaces) (o : Operand) : Type 0 whe
   pub few : vector_nodes o.place.vector ≤ component_nodes (indexed_by o.argument)
   pub select : SelectsInRange o.argument.select
 
+-- the operand with that argument, at that place
+abbrev pub operand_at : Argument → Place → Operand
+operand_at a p = record { argument = a; place = p }
+
 abbrev pub source_nodes : Argument → ℕ
 source_nodes a = if a.negate then component_nodes (indexed_by a) + 1 else component_nodes (indexed_by a)
 

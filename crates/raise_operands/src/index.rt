@@ -1,7 +1,7 @@
 ghost use Rattle.std.specs.Prelude.{◌≡◌, ◌+◌, ◌<◌, ◌≤◌, false, IsTrue, List, Some, None, length};
 ghost use Rattle.shader_tree.specs.Nodes.{AWord, ATruth, AStatement, a_word, a_truth, has};
 ghost use Rattle.shader_tree.specs.Terms.{Word, Scratch, Pick, Product, Set, Then, Nothing, term_at};
-ghost use Rattle.raise_operands.specs.Building.{AreFew, Grows, IsKept, IsNode, IsOperand, IsOperandOf, IsStep, StandsFor, has_index, indexed_by, begin_nodes, keep_nodes, relative_nodes, step_of};
+ghost use Rattle.raise_operands.specs.Building.{AreFew, Grows, IsKept, IsNode, IsOperand, IsOperandOf, IsStep, StandsFor, has_index, indexed_by, begin_nodes, keep_nodes, operand_at, relative_nodes, step_of};
 ghost use Rattle.tpf_program.specs.Holding.{SelectsInRange};
 ghost use Rattle.raise_operands.specs.Raises.{AddsInRange, InRange};
 ghost use Rattle.raise_operands.specs.Raising.{followed};
@@ -41,18 +41,19 @@ fn relative(tree: &mut Tree, program: &Program, relative: Relative) -> Value
 }
 
 /// The index of an operand.
-fn index(tree: &mut Tree, program: &Program, argument: Argument) -> Value
+fn index(tree: &mut Tree, program: &Program, argument: &Argument) -> Value
     requires few { AreFew (spaces_of program.now.shader) }
-    requires added { AddsInRange argument.relative }
-    requires room { length tree.old.nodes + relative_nodes argument.relative ≤ tree.old.capacity }
-    ensures grows { Grows tree.old tree.new (relative_nodes argument.relative) }
-    ensures makes { StandsFor tree.new.nodes result (index_word (spaces_of program.now.shader) argument) }
+    requires added { AddsInRange argument.now.relative }
+    requires room { length tree.old.nodes + relative_nodes argument.now.relative ≤ tree.old.capacity }
+    ensures grows { Grows tree.old tree.new (relative_nodes argument.now.relative) }
+    ensures makes { StandsFor tree.new.nodes result (index_word (spaces_of program.now.shader) argument.now) }
 {
+    let index = argument.index;
     match argument.relative {
-        None => Value::Literal(argument.index),
+        None => Value::Literal(index),
         Some(by) => {
             let word = relative(tree, program, by);
-            added(tree, word, argument.index)
+            added(tree, word, index)
         }
     }
 }
@@ -164,45 +165,42 @@ fn keep_index(
     (kept, statement)
 }
 
-/// An operand whose index is known.
-fn known_operand(program: &Program, number: u32, argument: Argument, index: u32) -> Operand
-    requires select { SelectsInRange argument.select }
-    requires index { literal (index_word (spaces_of program.now.shader) argument) ≡ Some index }
-    ensures operand { (nodes : List Node) → IsOperand nodes (spaces_of program.now.shader) result }
-    ensures number { result.place.number ≡ number }
-    ensures argument { result.argument ≡ argument }
-    ensures nothing { keeps_index (spaces_of program.now.shader) number argument ≡ Nothing }
+/// The place of an operand whose index is known.
+fn known_place(program: &Program, number: u32, argument: &Argument, index: u32) -> Place
+    requires select { SelectsInRange argument.now.select }
+    requires index { literal (index_word (spaces_of program.now.shader) argument.now) ≡ Some index }
+    ensures operand { (nodes : List Node) → IsOperand nodes (spaces_of program.now.shader) (operand_at argument.now result) }
+    ensures number { result.number ≡ number }
+    ensures nothing { keeps_index (spaces_of program.now.shader) number argument.now ≡ Nothing }
 {
-    let place = Place {
+    Place {
         number,
         vector: vector_by(program, argument.kind, argument.slot, Some(index)),
         kept: NOT_KEPT,
-    };
-    Operand { argument, place }
+    }
 }
 
-/// An operand whose index is no literal: it is kept, behind the statement in front.
-fn indexed_operand(
+/// The place of an operand whose index is no literal: it is kept, behind the statement in front.
+fn indexed_place(
     tree: &mut Tree,
     program: &Program,
     number: u32,
-    argument: Argument,
+    argument: &Argument,
     index: u32,
     front: Option<u32>,
-) -> (Operand, Option<u32>)
+) -> (Place, Option<u32>)
     requires number { number < 5 }
-    requires kind { indexed_by argument ≡ argument.relative }
-    requires select { SelectsInRange argument.select }
-    requires index { IsNode tree.old.nodes AWord index (index_word (spaces_of program.now.shader) argument) }
-    requires unknown { literal (index_word (spaces_of program.now.shader) argument) ≡ None }
+    requires kind { indexed_by argument.now ≡ argument.now.relative }
+    requires select { SelectsInRange argument.now.select }
+    requires index { IsNode tree.old.nodes AWord index (index_word (spaces_of program.now.shader) argument.now) }
+    requires unknown { literal (index_word (spaces_of program.now.shader) argument.now) ≡ None }
     requires front { IsStep tree.old.nodes front (step_of tree.old.nodes front) }
     requires room { length tree.old.nodes + keep_nodes front ≤ tree.old.capacity }
     ensures grows { Grows tree.old tree.new (keep_nodes front) }
-    ensures operand { IsOperand tree.new.nodes (spaces_of program.now.shader) result.0 }
-    ensures number { result.0.place.number ≡ number }
-    ensures argument { result.0.argument ≡ argument }
+    ensures operand { IsOperand tree.new.nodes (spaces_of program.now.shader) (operand_at argument.now result.0) }
+    ensures number { result.0.number ≡ number }
     ensures front { IsStep tree.new.nodes result.1 (followed (step_of tree.old.nodes front) (keeps_index
-        (spaces_of program.now.shader) number argument)) }
+        (spaces_of program.now.shader) number argument.now)) }
 {
     let vector = vector_by(program, argument.kind, argument.slot, None);
     match vector {
@@ -214,7 +212,7 @@ fn indexed_operand(
                 vector,
                 kept,
             };
-            (Operand { argument, place }, front)
+            (place, front)
         }
         _ => {
             let place = Place {
@@ -222,54 +220,78 @@ fn indexed_operand(
                 vector,
                 kept: NOT_KEPT,
             };
-            (Operand { argument, place }, front)
+            (place, front)
         }
     }
 }
 
-/// An operand of a type that has an index: it is taken, and kept behind the statement in front.
-fn vector_operand(
+/// The place of an operand of a type that has an index: it is taken, and kept behind the statement in front.
+fn vector_place(
     tree: &mut Tree,
     program: &Program,
     number: u32,
-    argument: Argument,
+    argument: &Argument,
     front: Option<u32>,
-) -> (Operand, Option<u32>)
+) -> (Place, Option<u32>)
     requires number { number < 5 }
-    requires kind { indexed_by argument ≡ argument.relative }
-    requires range { InRange argument }
+    requires kind { indexed_by argument.now ≡ argument.now.relative }
+    requires range { InRange argument.now }
     requires few { AreFew (spaces_of program.now.shader) }
     requires front { IsStep tree.old.nodes front (step_of tree.old.nodes front) }
-    requires room { length tree.old.nodes + begin_nodes argument.relative front ≤ tree.old.capacity }
-    ensures grows { Grows tree.old tree.new (begin_nodes argument.relative front) }
-    ensures operand { IsOperand tree.new.nodes (spaces_of program.now.shader) result.0 }
-    ensures number { result.0.place.number ≡ number }
-    ensures argument { result.0.argument ≡ argument }
+    requires room { length tree.old.nodes + begin_nodes argument.now.relative front ≤ tree.old.capacity }
+    ensures grows { Grows tree.old tree.new (begin_nodes argument.now.relative front) }
+    ensures operand { IsOperand tree.new.nodes (spaces_of program.now.shader) (operand_at argument.now result.0) }
+    ensures number { result.0.number ≡ number }
     ensures front { IsStep tree.new.nodes result.1 (followed (step_of tree.old.nodes front) (keeps_index
-        (spaces_of program.now.shader) number argument)) }
+        (spaces_of program.now.shader) number argument.now)) }
 {
     match index(tree, program, argument) {
-        Value::Literal(index) => (known_operand(program, number, argument, index), front),
-        Value::Node(index) => indexed_operand(tree, program, number, argument, index, front),
+        Value::Literal(index) => (known_place(program, number, argument, index), front),
+        Value::Node(index) => indexed_place(tree, program, number, argument, index, front),
     }
 }
 
-/// An operand of a type without index.
-fn plain_operand(program: &Program, number: u32, argument: Argument) -> Operand
-    requires kind { has_index argument.kind ≡ false }
-    requires select { SelectsInRange argument.select }
-    ensures none { indexed_by argument ≡ None }
-    ensures operand { (nodes : List Node) → IsOperand nodes (spaces_of program.now.shader) result }
-    ensures number { result.place.number ≡ number }
-    ensures argument { result.argument ≡ argument }
-    ensures nothing { keeps_index (spaces_of program.now.shader) number argument ≡ Nothing }
+/// The place of an operand of a type without index.
+fn plain_place(program: &Program, number: u32, argument: &Argument) -> Place
+    requires kind { has_index argument.now.kind ≡ false }
+    requires select { SelectsInRange argument.now.select }
+    ensures none { indexed_by argument.now ≡ None }
+    ensures operand { (nodes : List Node) → IsOperand nodes (spaces_of program.now.shader) (operand_at argument.now result) }
+    ensures number { result.number ≡ number }
+    ensures nothing { keeps_index (spaces_of program.now.shader) number argument.now ≡ Nothing }
 {
-    let place = Place {
+    Place {
         number,
         vector: vector_by(program, argument.kind, argument.slot, Some(0)),
         kept: NOT_KEPT,
-    };
-    Operand { argument, place }
+    }
+}
+
+/// Takes the index of an operand, keeps it behind the statement in front, and gives the operand's place.
+pub(crate) fn place(
+    tree: &mut Tree,
+    program: &Program,
+    number: u32,
+    argument: &Argument,
+    front: Option<u32>,
+) -> (Place, Option<u32>)
+    requires number { number < 5 }
+    requires range { InRange argument.now }
+    requires few { AreFew (spaces_of program.now.shader) }
+    requires front { IsStep tree.old.nodes front (step_of tree.old.nodes front) }
+    requires room { length tree.old.nodes + begin_nodes (indexed_by argument.now) front ≤ tree.old.capacity }
+    ensures grows { Grows tree.old tree.new (begin_nodes (indexed_by argument.now) front) }
+    ensures operand { IsOperandOf tree.new.nodes (spaces_of program.now.shader) number argument.now (operand_at
+        argument.now result.0) }
+    ensures front { IsStep tree.new.nodes result.1 (followed (step_of tree.old.nodes front) (keeps_index
+        (spaces_of program.now.shader) number argument.now)) }
+{
+    match argument.kind {
+        Kind::Indexable | Kind::Constant | Kind::ImmediateConstant => {
+            vector_place(tree, program, number, argument, front)
+        }
+        _ => (plain_place(program, number, argument), front),
+    }
 }
 
 /// Begins an operand: its index is taken, and kept behind the statement in front.
@@ -290,10 +312,6 @@ pub fn operand(
     ensures front { IsStep tree.new.nodes result.1 (followed (step_of tree.old.nodes front) (keeps_index
         (spaces_of program.now.shader) number argument)) }
 {
-    match argument.kind {
-        Kind::Indexable | Kind::Constant | Kind::ImmediateConstant => {
-            vector_operand(tree, program, number, argument, front)
-        }
-        _ => (plain_operand(program, number, argument), front),
-    }
+    let (place, front) = place(tree, program, number, &argument, front);
+    (Operand { argument, place }, front)
 }

@@ -1,35 +1,38 @@
 ghost use Rattle.std.specs.Prelude.{◌≡◌, ◌+◌, ◌≤◌, None, length};
 ghost use Rattle.tpf_program.specs.declared.instruction.Instruction.{Instruction};
-ghost use Rattle.raise_operands.specs.Building.{AreFew, AreOperands, Grows, IsOperandOf, IsStep, front_of, operands_nodes, three_kept, three_nodes};
+ghost use Rattle.raise_operands.specs.Building.{AreFew, AreOperands, Grows, IsOperandOf, IsStep, front_of, operand_at, operands_nodes, three_kept, three_nodes};
 ghost use Rattle.raise_operands.specs.Raises.{InRange};
 ghost use Rattle.raise_operands.specs.Vectors.{spaces_of};
 
-use crate::index::operand;
-use crate::operand::{Operand, Operands};
+use crate::index::place;
+use crate::operand::{Operand, Operands, Place};
 use shader_tree::Tree;
 use tpf_program::{Instruction, Program};
 
-/// Begins the first three operands of an instruction.
-fn begin_three(
+/// The places of the first three operands of an instruction, and the statement that keeps their indices.
+fn three_places(
     tree: &mut Tree,
     program: &Program,
-    instruction: Instruction,
-) -> (Operand, Operand, Operand, Option<u32>)
+    instruction: &Instruction,
+) -> (Place, Place, Place, Option<u32>)
     requires few { AreFew (spaces_of program.now.shader) }
-    requires o0 { InRange instruction.o0 }
-    requires o1 { InRange instruction.o1 }
-    requires o2 { InRange instruction.o2 }
-    requires room { length tree.old.nodes + three_nodes instruction ≤ tree.old.capacity }
-    ensures grows { Grows tree.old tree.new (three_nodes instruction) }
-    ensures o0 { IsOperandOf tree.new.nodes (spaces_of program.now.shader) 0 instruction.o0 result.0 }
-    ensures o1 { IsOperandOf tree.new.nodes (spaces_of program.now.shader) 1 instruction.o1 result.1 }
-    ensures o2 { IsOperandOf tree.new.nodes (spaces_of program.now.shader) 2 instruction.o2 result.2 }
-    ensures front { IsStep tree.new.nodes result.3 (three_kept (spaces_of program.now.shader) instruction) }
+    requires o0 { InRange instruction.now.o0 }
+    requires o1 { InRange instruction.now.o1 }
+    requires o2 { InRange instruction.now.o2 }
+    requires room { length tree.old.nodes + three_nodes instruction.now ≤ tree.old.capacity }
+    ensures grows { Grows tree.old tree.new (three_nodes instruction.now) }
+    ensures o0 { let a = instruction.now.o0 in
+        IsOperandOf tree.new.nodes (spaces_of program.now.shader) 0 a (operand_at a result.0) }
+    ensures o1 { let a = instruction.now.o1 in
+        IsOperandOf tree.new.nodes (spaces_of program.now.shader) 1 a (operand_at a result.1) }
+    ensures o2 { let a = instruction.now.o2 in
+        IsOperandOf tree.new.nodes (spaces_of program.now.shader) 2 a (operand_at a result.2) }
+    ensures front { IsStep tree.new.nodes result.3 (three_kept (spaces_of program.now.shader) instruction.now) }
 {
-    let (o0, front) = operand(tree, program, 0, instruction.o0, None);
-    let (o1, front) = operand(tree, program, 1, instruction.o1, front);
-    let (o2, front) = operand(tree, program, 2, instruction.o2, front);
-    (o0, o1, o2, front)
+    let (p0, front) = place(tree, program, 0, &instruction.o0, None);
+    let (p1, front) = place(tree, program, 1, &instruction.o1, front);
+    let (p2, front) = place(tree, program, 2, &instruction.o2, front);
+    (p0, p1, p2, front)
 }
 
 /// Begins the operands of an instruction, and gives the statement that keeps their indices.
@@ -50,16 +53,31 @@ pub fn begin(
     ensures instruction { result.0.instruction ≡ instruction }
     ensures front { IsStep tree.new.nodes result.1 (front_of (spaces_of program.now.shader) instruction) }
 {
-    let (o0, o1, o2, front) = begin_three(tree, program, instruction);
-    let (o3, front) = operand(tree, program, 3, instruction.o3, front);
-    let (o4, front) = operand(tree, program, 4, instruction.o4, front);
+    let (p0, p1, p2, front) = three_places(tree, program, &instruction);
+    let (p3, front) = place(tree, program, 3, &instruction.o3, front);
+    let (p4, front) = place(tree, program, 4, &instruction.o4, front);
     let operands = Operands {
         instruction,
-        o0,
-        o1,
-        o2,
-        o3,
-        o4,
+        o0: Operand {
+            argument: instruction.o0,
+            place: p0,
+        },
+        o1: Operand {
+            argument: instruction.o1,
+            place: p1,
+        },
+        o2: Operand {
+            argument: instruction.o2,
+            place: p2,
+        },
+        o3: Operand {
+            argument: instruction.o3,
+            place: p3,
+        },
+        o4: Operand {
+            argument: instruction.o4,
+            place: p4,
+        },
     };
     (operands, front)
 }
