@@ -132,15 +132,15 @@ pub(crate) fn parts(
     front: Option<u32>,
     meaning: Meaning,
     reach: Reach,
-    os: Operands,
+    os: &Operands,
 ) -> Option<u32>
     requires front { IsStep tree.old.nodes front (step_of tree.old.nodes front) }
     requires few { AreFew (spaces_of program.now.shader) }
-    requires operands { AreOperands tree.old.nodes (spaces_of program.now.shader) os }
-    requires room { length tree.old.nodes + parts_nodes meaning reach.address.way os ≤ tree.old.capacity }
-    ensures grows { Grows tree.old tree.new (parts_nodes meaning reach.address.way os) }
+    requires operands { AreOperands tree.old.nodes (spaces_of program.now.shader) os.now }
+    requires room { length tree.old.nodes + parts_nodes meaning reach.address.way os.now ≤ tree.old.capacity }
+    ensures grows { Grows tree.old tree.new (parts_nodes meaning reach.address.way os.now) }
     ensures makes { IsStep tree.new.nodes result (chained_from (step_of tree.old.nodes front) (parts_by meaning
-        (spaces_of program.now.shader) reach os.instruction)) }
+        (spaces_of program.now.shader) reach os.now.instruction)) }
 {
     operand_laws();
     match meaning {
@@ -187,15 +187,15 @@ pub(crate) fn results(
     program: &Program,
     front: Option<u32>,
     meaning: Meaning,
-    os: Operands,
+    os: &Operands,
     given: Given,
 ) -> Option<u32>
     requires front { IsStep tree.old.nodes front (step_of tree.old.nodes front) }
     requires few { AreFew (spaces_of program.now.shader) }
-    requires operands { AreOperands tree.old.nodes (spaces_of program.now.shader) os }
-    requires room { length tree.old.nodes + results_nodes meaning given os ≤ tree.old.capacity }
-    ensures grows { Grows tree.old tree.new (results_nodes meaning given os) }
-    ensures makes { let i = os.instruction in IsStep tree.new.nodes result
+    requires operands { AreOperands tree.old.nodes (spaces_of program.now.shader) os.now }
+    requires room { length tree.old.nodes + results_nodes meaning given os.now ≤ tree.old.capacity }
+    ensures grows { Grows tree.old tree.new (results_nodes meaning given os.now) }
+    ensures makes { let i = os.now.instruction in IsStep tree.new.nodes result
         (chained_from (step_of tree.old.nodes front) (writes (spaces_of program.now.shader) i (given_word given) (results meaning i))) }
 {
     if has_result(meaning) {

@@ -32,20 +32,20 @@ fn chain(
     front: Option<u32>,
     meaning: Meaning,
     null: bool,
-    os: Operands,
+    os: &Operands,
     given: Given,
 ) -> Option<u32>
     requires typed { program.now.shader.typed ≡ [] }
     requires front { IsStep tree.old.nodes front (step_of tree.old.nodes front) }
     requires few { AreFew (spaces_of program.now.shader) }
-    requires operands { AreOperands tree.old.nodes (spaces_of program.now.shader) os }
+    requires operands { AreOperands tree.old.nodes (spaces_of program.now.shader) os.now }
     requires words { (c : ℕ)
-        → given_word given c ≡ (work_by meaning null program.now.shader os.instruction).values c }
-    requires room { length tree.old.nodes + work_nodes meaning (at_of meaning program.now.shader os.instruction).way
-        given os ≤ tree.old.capacity }
+        → given_word given c ≡ (work_by meaning null program.now.shader os.now.instruction).values c }
+    requires room { length tree.old.nodes + work_nodes meaning (at_of meaning program.now.shader os.now.instruction).way
+        given os.now ≤ tree.old.capacity }
     ensures grows { Grows tree.old tree.new (work_nodes meaning
-        (at_of meaning program.now.shader os.instruction).way given os) }
-    ensures makes { let p = program.now.shader in let i = os.instruction in let w = work_by meaning null p i in
+        (at_of meaning program.now.shader os.now.instruction).way given os.now) }
+    ensures makes { let p = program.now.shader in let i = os.now.instruction in let w = work_by meaning null p i in
         IsStep tree.new.nodes result (chained_from (step_of tree.old.nodes front)
         (w.kept ++ (w.parts ++ writes (spaces_of p) i w.values (results meaning i)))) }
 {
@@ -73,7 +73,7 @@ fn raised(
     growing_laws();
     let (os, front) = begin(tree, program, instruction);
     let given = given(program, meaning, null, os.instruction);
-    let last = chain(tree, program, front, meaning, null, os, given);
+    let last = chain(tree, program, front, meaning, null, &os, given);
     some_statement(tree, last)
 }
 

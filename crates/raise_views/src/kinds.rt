@@ -87,20 +87,20 @@ pub(crate) fn kept(
     program: &Program,
     front: Option<u32>,
     meaning: Meaning,
-    os: Operands,
+    os: &Operands,
 ) -> (Address, Option<u32>)
     requires typed { program.now.shader.typed ≡ [] }
     requires front { IsStep tree.old.nodes front (step_of tree.old.nodes front) }
     requires few { AreFew (spaces_of program.now.shader) }
-    requires operands { AreOperands tree.old.nodes (spaces_of program.now.shader) os }
-    requires room { length tree.old.nodes + kept_nodes meaning os ≤ tree.old.capacity }
-    ensures grows { Grows tree.old tree.new (kept_nodes meaning os) }
-    ensures address { result.0 ≡ address_of (at_of meaning program.now.shader os.instruction) }
+    requires operands { AreOperands tree.old.nodes (spaces_of program.now.shader) os.now }
+    requires room { length tree.old.nodes + kept_nodes meaning os.now ≤ tree.old.capacity }
+    ensures grows { Grows tree.old tree.new (kept_nodes meaning os.now) }
+    ensures address { result.0 ≡ address_of (at_of meaning program.now.shader os.now.instruction) }
     ensures front { IsStep tree.new.nodes result.1 (chained_from (step_of tree.old.nodes front) (keeps
-        (at_of meaning program.now.shader os.instruction))) }
+        (at_of meaning program.now.shader os.now.instruction))) }
 {
     operand_laws();
-    let i = os.instruction;
+    let i = &os.instruction;
     match meaning {
         Meaning::LoadStructured => structured(tree, program, front, i.o3, os.o1, os.o2),
         Meaning::StoreStructured => structured(tree, program, front, i.o0, os.o1, os.o2),

@@ -54,17 +54,17 @@ fn address(
     program: &Program,
     front: Option<u32>,
     meaning: Meaning,
-    os: Operands,
+    os: &Operands,
 ) -> (Address, Option<u32>)
     requires typed { program.now.shader.typed ≡ [] }
     requires front { IsStep tree.old.nodes front (step_of tree.old.nodes front) }
     requires few { AreFew (spaces_of program.now.shader) }
-    requires operands { AreOperands tree.old.nodes (spaces_of program.now.shader) os }
-    requires room { length tree.old.nodes + kept_nodes meaning os ≤ tree.old.capacity }
-    ensures grows { Grows tree.old tree.new (kept_nodes meaning os) }
-    ensures address { IsAddressOf meaning (at_of meaning program.now.shader os.instruction) result.0 }
+    requires operands { AreOperands tree.old.nodes (spaces_of program.now.shader) os.now }
+    requires room { length tree.old.nodes + kept_nodes meaning os.now ≤ tree.old.capacity }
+    ensures grows { Grows tree.old tree.new (kept_nodes meaning os.now) }
+    ensures address { IsAddressOf meaning (at_of meaning program.now.shader os.now.instruction) result.0 }
     ensures front { IsStep tree.new.nodes result.1 (chained_from (step_of tree.old.nodes front) (keeps_by meaning
-        (at_of meaning program.now.shader os.instruction))) }
+        (at_of meaning program.now.shader os.now.instruction))) }
 {
     match meaning {
         Meaning::Allocates | Meaning::Consumes => (COUNTER, front),
@@ -78,17 +78,17 @@ pub(crate) fn reach(
     program: &Program,
     front: Option<u32>,
     meaning: Meaning,
-    os: Operands,
+    os: &Operands,
 ) -> (Reach, Option<u32>)
     requires typed { program.now.shader.typed ≡ [] }
     requires front { IsStep tree.old.nodes front (step_of tree.old.nodes front) }
     requires few { AreFew (spaces_of program.now.shader) }
-    requires operands { AreOperands tree.old.nodes (spaces_of program.now.shader) os }
-    requires room { length tree.old.nodes + kept_nodes meaning os ≤ tree.old.capacity }
-    ensures grows { Grows tree.old tree.new (kept_nodes meaning os) }
-    ensures reach { IsReachOf meaning program.now.shader os.instruction result.0 }
+    requires operands { AreOperands tree.old.nodes (spaces_of program.now.shader) os.now }
+    requires room { length tree.old.nodes + kept_nodes meaning os.now ≤ tree.old.capacity }
+    ensures grows { Grows tree.old tree.new (kept_nodes meaning os.now) }
+    ensures reach { IsReachOf meaning program.now.shader os.now.instruction result.0 }
     ensures front { IsStep tree.new.nodes result.1 (chained_from (step_of tree.old.nodes front) (keeps_by meaning
-        (at_of meaning program.now.shader os.instruction))) }
+        (at_of meaning program.now.shader os.now.instruction))) }
 {
     let room = room_by(meaning, os.instruction);
     let known = known_words(program, room);

@@ -30,17 +30,17 @@ fn events(
     program: &Program,
     front: Option<u32>,
     meaning: Meaning,
-    os: Operands,
+    os: &Operands,
 ) -> Option<u32>
     requires typed { program.now.shader.typed ≡ [] }
     requires front { IsStep tree.old.nodes front (step_of tree.old.nodes front) }
     requires few { AreFew (spaces_of program.now.shader) }
-    requires operands { AreOperands tree.old.nodes (spaces_of program.now.shader) os }
-    requires room { length tree.old.nodes + events_nodes meaning (at_of meaning program.now.shader os.instruction).way
-        os ≤ tree.old.capacity }
+    requires operands { AreOperands tree.old.nodes (spaces_of program.now.shader) os.now }
+    requires room { length tree.old.nodes + events_nodes meaning (at_of meaning program.now.shader os.now.instruction).way
+        os.now ≤ tree.old.capacity }
     ensures grows { Grows tree.old tree.new (events_nodes meaning
-        (at_of meaning program.now.shader os.instruction).way os) }
-    ensures makes { let p = program.now.shader in let i = os.instruction in IsStep tree.new.nodes result
+        (at_of meaning program.now.shader os.now.instruction).way os.now) }
+    ensures makes { let p = program.now.shader in let i = os.now.instruction in IsStep tree.new.nodes result
         (chained_from (chained_from (step_of tree.old.nodes front) (keeps_by meaning (at_of meaning p i)))
         (parts_by meaning (spaces_of p) (reach_of meaning p i) i)) }
 {
@@ -149,17 +149,17 @@ pub(crate) fn work(
     front: Option<u32>,
     meaning: Meaning,
     null: bool,
-    os: Operands,
+    os: &Operands,
 ) -> Option<u32>
     requires typed { program.now.shader.typed ≡ [] }
     requires front { IsStep tree.old.nodes front (step_of tree.old.nodes front) }
     requires few { AreFew (spaces_of program.now.shader) }
-    requires operands { AreOperands tree.old.nodes (spaces_of program.now.shader) os }
-    requires room { length tree.old.nodes + events_nodes meaning (at_of meaning program.now.shader os.instruction).way
-        os ≤ tree.old.capacity }
+    requires operands { AreOperands tree.old.nodes (spaces_of program.now.shader) os.now }
+    requires room { length tree.old.nodes + events_nodes meaning (at_of meaning program.now.shader os.now.instruction).way
+        os.now ≤ tree.old.capacity }
     ensures grows { Grows tree.old tree.new (events_nodes meaning
-        (at_of meaning program.now.shader os.instruction).way os) }
-    ensures makes { let w = work_by meaning null program.now.shader os.instruction in IsStep tree.new.nodes result
+        (at_of meaning program.now.shader os.now.instruction).way os.now) }
+    ensures makes { let w = work_by meaning null program.now.shader os.now.instruction in IsStep tree.new.nodes result
         (chained_from (chained_from (step_of tree.old.nodes front) w.kept) w.parts) }
 {
     match meaning {

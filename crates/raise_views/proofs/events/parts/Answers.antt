@@ -14,7 +14,7 @@ returns-in-StoreRaw-clause-makes c =
     let o = c.requires.operands in
     as_step _ _ _ _ c.stores.ensures.makes
     (stores_same s c.args.reach g _ _ _ _ _ _ o.o0.argument o.o2.number o.o2.argument
-    ∙ ap (λ m. chained_from s (parts_by m g c.args.reach c.args.os.instruction)) (sym c.in-StoreRaw.is))
+    ∙ ap (λ m. chained_from s (parts_by m g c.args.reach c.args.os.now.instruction)) (sym c.in-StoreRaw.is))
 
 pub returns-in-StoreStructured-clause-makes : goal.returns-in-StoreStructured-clause-makes
 returns-in-StoreStructured-clause-makes c =
@@ -23,4 +23,4 @@ returns-in-StoreStructured-clause-makes c =
     let o = c.requires.operands in
     as_step _ _ _ _ c.stores-in-StoreStructured.ensures.makes
     (stores_same s c.args.reach g _ _ _ _ _ _ o.o0.argument o.o3.number o.o3.argument
-    ∙ ap (λ m. chained_from s (parts_by m g c.args.reach c.args.os.instruction)) (sym c.in-StoreStructured.is))
+    ∙ ap (λ m. chained_from s (parts_by m g c.args.reach c.args.os.now.instruction)) (sym c.in-StoreStructured.is))

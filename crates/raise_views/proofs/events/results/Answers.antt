@@ -9,11 +9,11 @@ use Rattle.raise_views.proofs.events.results.Goals as goal
 
 pub writes-requires-clause-room : goal.writes-requires-clause-room
 writes-requires-clause-room c =
-    omega (arith, results_count c.args.meaning c.args.given c.args.os (sym c.has_result.ensures ∙ c.if-has_result.true), c.requires.room)
+    omega (arith, results_count c.args.meaning c.args.given c.args.os.now (sym c.has_result.ensures ∙ c.if-has_result.true), c.requires.room)
 
 pub returns-then-has_result-clause-grows : goal.returns-then-has_result-clause-grows
 returns-then-has_result-clause-grows c =
-    grows_same _ _ _ _ c.writes.ensures.grows (results_count c.args.meaning c.args.given c.args.os (sym c.has_result.ensures ∙ c.if-has_result.true))
+    grows_same _ _ _ _ c.writes.ensures.grows (results_count c.args.meaning c.args.given c.args.os.now (sym c.has_result.ensures ∙ c.if-has_result.true))
 
 pub returns-then-has_result-clause-makes : goal.returns-then-has_result-clause-makes
 returns-then-has_result-clause-makes c =
@@ -21,5 +21,5 @@ returns-then-has_result-clause-makes c =
     let o = c.requires.operands.o0 in
     as_step _ _ _ _ c.writes.ensures.makes
     (same_writes g _ _ 0 _ (given_word c.args.given) _ o.number o.argument
-    ∙ results_are (has_result c.args.meaning) c.args.os.instruction.o0 (λ c'. write_by (target g c.args.os.instruction.o0) g 0 c'
+    ∙ results_are (has_result c.args.meaning) c.args.os.now.instruction.o0 (λ c'. write_by (target g c.args.os.now.instruction.o0) g 0 c'
     (given_word c.args.given c')) _ (sym c.has_result.ensures ∙ c.if-has_result.true))

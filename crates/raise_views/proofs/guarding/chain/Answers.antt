@@ -14,7 +14,7 @@ pub returns-clause-makes : goal.returns-clause-makes
 returns-clause-makes c =
     let m = c.args.meaning in
     let p = c.args.program.now.shader in
-    let i = c.args.os.instruction in
+    let i = c.args.os.now.instruction in
     let g = spaces_of p in
     let w = work_by m c.args.null p i in
     as_step _ _ _ _ c.results.ensures.makes
