@@ -1,6 +1,8 @@
 -- What the parts of a run leave: reading the files of a job, and translating their bytes to an output.
 use Rattle.std.specs.Prelude.{◌≡◌, ℕ, ◌⊎◌, List, [], Option, Some, None, Result, Ok, Err, take}
 use Rattle.word_base.specs.declared.rule.Refusal.{Refusal}
+use Rattle.word_base.specs.declared.rule.Halt.{Halt}
+use Rattle.word_base.specs.declared.rule.Halt.TheVariants as halt
 use Rattle.word_base.specs.Rules.{IsFirst, IsSound}
 use Rattle.outside.specs.Causes.{Rose}
 use Rattle.outside.specs.Told.{Told, File, file_of}
@@ -45,11 +47,20 @@ FailsToCome job old new (failure.Refused r) = ComesTooLong job old new r
 FailsToCome job old new failure.Fault = Rose old.faults new.faults ⊎ LacksFile job old.files
 FailsToCome job old new failure.NoMemory = Unit {0}
 
--- Why a binding file gives no map: the first rule that it breaks, or want of memory.
+-- Why no map is made: the first of these rules that is broken, or want of memory.
+abbrev pub HindersBy : (Refusal → Type 0) → Failure → Type 0
+HindersBy breaks (failure.Refused r) = IsFirst breaks r
+HindersBy breaks failure.Fault = ⊥
+HindersBy breaks failure.NoMemory = Unit {0}
+
+-- Why a binding file gives none.
 abbrev pub IsHindered : Choice → List ℕ → Failure → Type 0
-IsHindered choice file (failure.Refused r) = IsFirst (BreaksFile choice file) r
-IsHindered choice file failure.Fault = ⊥
-IsHindered choice file failure.NoMemory = Unit {0}
+IsHindered choice file = HindersBy (BreaksFile choice file)
+
+-- what stops a reader, as a failure
+abbrev pub failure_by : Halt → Failure
+failure_by (halt.Refused r) = failure.Refused r
+failure_by halt.NoMemory = failure.NoMemory
 
 -- A module of the input breaks no rule, and was written whole.
 pub record WritesModule (job : Job) (old new : Outside) (input file : List ℕ) : Type 0 where

@@ -1,9 +1,14 @@
 //! The translation of an input that was read to an output.
-ghost use Rattle.std.specs.Prelude.{◌≤◌, length, IfErr, IfOk, OnOk};
+ghost use Rattle.std.specs.Prelude.{◌≡◌, ◌≤◌, List, length, IfErr, IfOk, OnOk};
 ghost use Rattle.word_base.specs.Rules.{IsSound};
+ghost use Rattle.root_signature.specs.declared.covers.Covers.{Covers};
+ghost use Rattle.root_signature.specs.Refusals.{IsBroken};
+ghost use Rattle.root_signature.specs.Signatures.{Reads};
+ghost use Rattle.binding_map.specs.Roots.{root_map};
+ghost use Rattle.binding_map.specs.Texts.{TextBreaks, text_map};
 ghost use Rattle.command_line.specs.Shown.{choice_shown, job_shown};
 ghost use Rattle.compiler_cli.specs.Output.{AreTaken, BreaksFile, IsMapOf};
-ghost use Rattle.compiler_cli.specs.Parts.{IsHindered, Translates};
+ghost use Rattle.compiler_cli.specs.Parts.{HindersBy, IsHindered, Translates, failure_by};
 ghost use Rattle.compiler_cli.specs.Run.{outside as seen};
 
 use crate::failure::Failure;
@@ -18,6 +23,43 @@ use tpf_program::Program;
 use translator::{Workspace, input_laws, room_for, translate_read};
 use word_base::Halt;
 
+/// Why no binding map was made, as why no module is.
+fn failure_of(halt: Halt) -> Failure
+    ensures { result ≡ failure_by halt }
+{
+    match halt {
+        Halt::Refused(refusal) => Failure::Refused(refusal),
+        Halt::NoMemory => Failure::NoMemory,
+    }
+}
+
+/// The binding map that a text gives.
+fn map_by_text(alloc: Global, text: &[u8]) -> Result<Bindings, Failure>
+    requires { length text.now ≤ 16777216 }
+    ensures sound { OnOk result (IsSound (TextBreaks text.now)) }
+    ensures map { IfOk result (λ bindings. bindings ≡ text_map text.now) }
+    ensures hindered { IfErr result (HindersBy (TextBreaks text.now)) }
+{
+    match from_text(alloc, text) {
+        Ok(bindings) => Ok(bindings),
+        Err(halt) => Err(failure_of(halt)),
+    }
+}
+
+/// The binding map of a program under the root signature of a container.
+fn map_by_signature(alloc: Global, program: &Program, file: &[u8]) -> Result<Bindings, Failure>
+    requires { length file.now ≤ 16777216 }
+    ensures sound { OnOk result (IsSound (IsBroken file.now)) }
+    ensures map { IfOk result (λ bindings. (entries : List Covers) × Reads file.now entries ×
+        (bindings ≡ root_map entries program.now.shader)) }
+    ensures hindered { IfErr result (HindersBy (IsBroken file.now)) }
+{
+    match parse(alloc, file) {
+        Ok(root) => from_root(alloc, &root, program).map_err(|_| Failure::NoMemory),
+        Err(halt) => Err(failure_of(halt)),
+    }
+}
+
 /// The binding map of a program, by a choice and the bytes of its file.
 fn map_for(
     alloc: Global,
@@ -31,23 +73,9 @@ fn map_for(
     ensures hindered { IfErr result (IsHindered (choice_shown choice.entry) file.now) }
 {
     match choice {
-        BindingChoice::Default => match from_default(alloc, program) {
-            Ok(bindings) => Ok(bindings),
-            Err(_) => Err(Failure::NoMemory),
-        },
-        BindingChoice::Text(_) => match from_text(alloc, file) {
-            Ok(bindings) => Ok(bindings),
-            Err(Halt::Refused(refusal)) => Err(Failure::Refused(refusal)),
-            Err(Halt::NoMemory) => Err(Failure::NoMemory),
-        },
-        BindingChoice::Signature(_) => match parse(alloc, file) {
-            Ok(root) => match from_root(alloc, &root, program) {
-                Ok(bindings) => Ok(bindings),
-                Err(_) => Err(Failure::NoMemory),
-            },
-            Err(Halt::Refused(refusal)) => Err(Failure::Refused(refusal)),
-            Err(Halt::NoMemory) => Err(Failure::NoMemory),
-        },
+        BindingChoice::Default => from_default(alloc, program).map_err(|_| Failure::NoMemory),
+        BindingChoice::Text(_) => map_by_text(alloc, file),
+        BindingChoice::Signature(_) => map_by_signature(alloc, program, file),
     }
 }
 
