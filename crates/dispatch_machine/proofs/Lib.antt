@@ -1,4 +1,3 @@
-pub mod Stops
 pub mod Ends
 pub mod Follows
 pub mod Picks

@@ -2,7 +2,7 @@
 use Rattle.std.proofs.Common.{◌≡◌, ℕ, ◌<◌, ◌^◌, List, [], ◌∷◌, ◌++◌, length, refl, sym, subst, arith}
 use Rattle.word_base.specs.declared.event.Event.{Event}
 use Rattle.word_base.specs.Lanes.{Turn, Asks, Ends, Meets, Makes, Forward, SameLanes}
-use Rattle.dispatch_machine.proofs.Stops.{one_turn}
+use Rattle.word_base.proofs.Walks.{one_turn}
 
 -- All events that a lane makes are in a set.
 abbrev pub MakesOnly : {S : Type 0} → (Event → Type 0) → (S → Turn S) → S → Type 0

@@ -17,8 +17,6 @@ mod Kept
 mod Grown
 mod LongEnough
 mod Stands
-mod Walks
-mod Simulation
 mod Settled
 mod Steady
 mod Rising
@@ -26,7 +24,6 @@ mod Together
 mod Unmarked
 mod Known
 mod Strides
-mod Uncounted
 mod Owing
 mod RaisedLanes
 mod Sums

@@ -26,13 +26,14 @@ use Rattle.raise_operands.specs.Vectors.{spaces_of}
 use Rattle.raise_views.specs.Guarding as guarding
 use Rattle.raise_views.specs.Guarding.{is_guarded}
 use Rattle.raise_views.specs.Guards.{Guards, IsGuardable}
-use Rattle.raise_program.specs.Counted.{Counted, at_count, counted, times_back}
+use Rattle.word_base.specs.Counted.{Counted, at_count, counted}
+use Rattle.raise_program.specs.GoingBack.{times_back}
 use Rattle.raise_program.specs.Parts.{parts_of}
 use Rattle.raise_program.specs.Raised.{raised}
 use Rattle.raise_program.proofs.Owing.{Known, raising}
 use Rattle.raise_program.proofs.Strides.{program_of_words}
 use Rattle.raise_program.proofs.Together.{Raising, same_counted, same_turns}
-use Rattle.raise_program.proofs.Uncounted.{uncounted}
+use Rattle.word_base.proofs.Uncounted.{first_uncounted}
 
 -- what the crates below say
 pub record Laws : Type 0 where
@@ -73,7 +74,7 @@ module _ (laws : Laws) (p : Shader) (tokens : List ℕ) (bindings : List Binding
     pub same : SameLanes (bytecode.step Base p setting) (tree.step (spaces_of p) setting) bytecode.start
         (tree.start (raised (parts_of (is_null_in bindings) p) nested.front))
     same =
-        uncounted (bytecode.step Base p setting) times_back (tree.step (spaces_of p) setting) bytecode.start 0
+        first_uncounted (bytecode.step Base p setting) times_back (tree.step (spaces_of p) setting) bytecode.start 0
         (tree.start (raised (parts_of (is_null_in bindings) p) nested.front))
         (same_counted p nested (spaces_of p) setting (parts_of (is_null_in bindings) p) owed)
 

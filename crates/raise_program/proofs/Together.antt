@@ -25,7 +25,8 @@ use Rattle.shader_tree.specs.Lane.{State, state, step}
 use Rattle.shader_tree.specs.Lane as tree
 use Rattle.shader_tree.specs.Plans.{Plans, Left, Performs}
 use Rattle.shader_tree.specs.Values.{Spaces, words}
-use Rattle.raise_program.specs.Counted.{Counted, at_count, with_count, counted, times_back}
+use Rattle.word_base.specs.Counted.{Counted, at_count, with_count, counted}
+use Rattle.raise_program.specs.GoingBack.{times_back}
 use Rattle.raise_program.specs.Spots.{Frame, Before, Behind, InIf, InThen, InElse, InLoop, InSwitch, filled, in_front, behind, place_in, size, where_in}
 use Rattle.raise_program.specs.SpotLane.{Spot, AtBegin, AtEnd, SpotState, Follows, IsReached, asks_or, at_place, goes_back, in_list, moved, place_of, spot_step, to_spot, whole_of, plain_turn, turn_in}
 use Rattle.raise_program.specs.Raised.{AreUnmarked, Parts, chain_of, goes_on, links, raised}
@@ -39,7 +40,7 @@ use Rattle.raise_program.proofs.Places.{get_at}
 use Rattle.raise_program.proofs.SameSteps.{is_spot, same_step}
 use Rattle.raise_program.proofs.Settled.{stays}
 use Rattle.raise_program.proofs.Rising.{asks_rises, goes_rises, plan_rises}
-use Rattle.raise_program.proofs.Simulation.{Followed, related, same_lanes}
+use Rattle.word_base.proofs.Simulation.{Followed, related, same_lanes}
 use Rattle.raise_program.proofs.Steady.{Keeps, control_keeps, plain_alone, plain_goes, plain_on}
 
 -- an instruction of the program

@@ -4,7 +4,7 @@ pub mod Raised
 pub mod Advances
 pub mod Walked
 pub mod Walking
-pub mod Counted
+pub mod GoingBack
 pub mod Parts
 pub mod Whole
 pub mod TreeOf

@@ -7,7 +7,7 @@
 //! instruction in it leads, `SpotLane` for a lane that stands at such statements, `Raised` for the
 //! statements of a tree and what of them is still to be run at a spot, `Parts` for what each instruction
 //! is raised to, `Whole` for a whole program, `Advances` for how the tree's lane goes on at control flow,
-//! `Counted` for how often the program's lane goes back, `ProgramShape` for a program's loops, switches
+//! `GoingBack` for how often the program's lane goes back, `ProgramShape` for a program's loops, switches
 //! and events in order, and `TreeOf` for what the tree of a whole program is. What the code keeps on its
 //! walk: `Walked` as statements, `Walking` as ids of a tree that grows.
 #![tactic(auto)]

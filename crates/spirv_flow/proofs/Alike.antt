@@ -12,7 +12,8 @@ use Rattle.spirv_emit.specs.Emission.{spaces_of}
 use Rattle.spirv_emit.specs.declared.emitter.Emitter.{Emitter as Emission}
 use Rattle.spirv_emit.specs.Growing.{Completes}
 use Rattle.spirv_emit.specs.Lanes.{Site, IsWhole, HasAt}
-use Rattle.spirv_flow.specs.Counted.{Counted, at_count, counted, goes_back}
+use Rattle.word_base.specs.Counted.{Counted, at_count, counted}
+use Rattle.spirv_flow.specs.GoingBack.{goes_back}
 use Rattle.spirv_flow.specs.Layout.{code_of, leave}
 use Rattle.spirv_flow.specs.Lowers as flow
 use Rattle.spirv_flow.specs.Lowers.{IsClean, Lowers}
@@ -20,7 +21,7 @@ use Rattle.spirv_flow.specs.Pieces.{IsSettled, HasSingleLabels}
 use Rattle.spirv_flow.proofs.Carried.{carried}
 use Rattle.spirv_flow.proofs.Chains.{size}
 use Rattle.spirv_flow.proofs.Followed as followed
-use Rattle.spirv_flow.proofs.Uncounted.{uncounted}
+use Rattle.word_base.proofs.Uncounted.{second_uncounted}
 
 settled_of : (z : Site) → IsWhole z → HasSingleLabels z.machine.code → IsSettled z.machine.code
 settled_of z h k = record {
@@ -43,7 +44,7 @@ module _ (z : Site) (old new : Emission) (x : Term) (h : Lowers old new 0 0 0 fa
       (omega arith) here (h.law z full) h.placed holds sound
 
   pub same : SameLanes (tree.step (spaces_of z.frame) z.machine.setting) (step z.machine) (tree.state (push x []) w 0) s
-  same = uncounted (step z.machine) goes_back (tree.step (spaces_of z.frame) z.machine.setting) (tree.state (push x []) w 0) s 0
+  same = second_uncounted (step z.machine) goes_back (tree.step (spaces_of z.frame) z.machine.setting) (tree.state (push x []) w 0) s 0
       (followed.same_events (spaces_of z.frame) z.machine settled Table (flow.Holds z) IsClean IsEmpty (carried z) (suc (size x))
       (tree.state (push x []) w 0) (at_count s 0) side)
 

@@ -12,7 +12,7 @@ use Rattle.shader_tree.specs.Terms.{Term}
 use Rattle.shader_tree.specs.Terms as term
 use Rattle.shader_tree.specs.Values.{Spaces, Words, Value, IsWord, IsTruth, value}
 use Rattle.shader_tree.specs.Lane as tree
-use Rattle.spirv_flow.specs.Counted.{Counted, at_count}
+use Rattle.word_base.specs.Counted.{Counted, at_count}
 use Rattle.spirv_flow.specs.Layout.{Layout, Straight, Both, Guarded, Chosen, Looped, Switched, CaseAt, DefaultAt, Breaks, Continues, Returns, label, branch, merge, loop_merge, choose, leave, switch, cases, default, first_of, pairs, code_of, ArePlain, Placed}
 use Rattle.spirv_emit.specs.Lanes.{HasAt}
 use Rattle.spirv_flow.specs.Pieces.{IsSettled, CarriesOver, Passes, Always, Does, Answers}
@@ -22,11 +22,11 @@ use Rattle.spirv_flow.proofs.Following.{Follow, Rest, Pass, Jump, Turns, Closes,
 use Rattle.spirv_flow.proofs.Leaves.{rechained, set_alike, write_alike, load_alike, store_alike, atomic_alike, sync_alike}
 use Rattle.spirv_flow.proofs.Reached as reached
 use Rattle.spirv_flow.proofs.Reached.{Reaches, ReachesWith}
-use Rattle.spirv_flow.proofs.Simulation.{Followed, related, same_lanes}
+use Rattle.word_base.proofs.Simulation.{Followed, related, same_lanes}
 use Rattle.spirv_flow.proofs.Sound.{sound_silent, sound_event, sound_here}
 use Rattle.spirv_flow.proofs.Steps.{Labels, has_front, has_back, right, count_back, count_asks, count_ends, branch_step, leave_step, straight}
 use Rattle.spirv_flow.proofs.Switches.{mark_label, switch_target, Finds, finds_either, finds, two_after}
-use Rattle.spirv_flow.proofs.Walks.{goes_on}
+use Rattle.word_base.proofs.Walks.{goes_on}
 
 module _ (g : Spaces) (m : Machine) (settled : IsSettled m.code) (Table : Type 0) (Holds : Table → State → Words → Type 0)
     (IsClean IsNew : Table → Type 0)

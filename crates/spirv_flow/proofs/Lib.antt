@@ -12,8 +12,6 @@ mod Silent
 mod Whole
 mod Forward
 mod Chains
-mod Simulation
-mod Walks
 mod Steps
 mod Following
 mod Reached
@@ -21,7 +19,6 @@ mod Leaves
 mod Sound
 mod Followed
 mod Switches
-mod Uncounted
 mod Composing
 mod Defined
 mod Pieces

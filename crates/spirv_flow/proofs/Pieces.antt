@@ -27,7 +27,7 @@ use Rattle.spirv_flow.specs.Pieces as pieces
 use Rattle.spirv_flow.proofs.Composing.{in_right, behind_append, IsGrowth, written_on}
 use Rattle.spirv_flow.proofs.Shapes.{in_front, behind as behind_code, quiet_both}
 use Rattle.spirv_flow.proofs.Steps.{has_front, has_back}
-use Rattle.spirv_flow.proofs.Walks.{goes_on}
+use Rattle.word_base.proofs.Walks.{goes_on}
 use Rattle.spirv_flow.proofs.Defined.{results_are_values}
 use Rattle.spirv_flow.proofs.Numbers.{once}
 

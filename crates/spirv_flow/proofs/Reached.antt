@@ -8,12 +8,12 @@ use Rattle.spirv_words.specs.Globals.{Machine}
 use Rattle.spirv_words.specs.Lane.{State, step, goes_to, target}
 use Rattle.shader_tree.specs.Terms.{Term}
 use Rattle.shader_tree.specs.Values.{Spaces, Words, word, truth, value}
-use Rattle.spirv_flow.specs.Counted.{at_count}
+use Rattle.word_base.specs.Counted.{at_count}
 use Rattle.spirv_flow.specs.Layout.{Layout, branch, merge, loop_merge, choose, switch, cases, default, pairs, ArePlain}
 use Rattle.spirv_emit.specs.Lanes.{HasAt}
 use Rattle.spirv_flow.specs.Pieces.{IsSettled, CarriesOver, Gives, Passes, Always, Tests, Measures}
 use Rattle.spirv_flow.proofs.Steps.{Labels, right, branch_step, merge_step, loop_merge_step, choose_step, switch_step, count_on, straight}
-use Rattle.spirv_flow.proofs.Walks.{goes_on}
+use Rattle.word_base.proofs.Walks.{goes_on}
 
 module _ (g : Spaces) (m : Machine) (settled : IsSettled m.code) (Table : Type 0) (Holds : Table → State → Words → Type 0)
     (IsClean IsNew : Table → Type 0)

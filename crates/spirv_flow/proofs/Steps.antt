@@ -9,7 +9,8 @@ use Rattle.spirv_words.specs.Text.{Instr}
 use Rattle.spirv_words.specs.Values.{Word, Truth}
 use Rattle.spirv_words.specs.Globals.{Machine}
 use Rattle.spirv_words.specs.Lane.{State, step, goes_to, act_of_op, label_place, target}
-use Rattle.spirv_flow.specs.Counted.{Counted, at_count, counted, goes_back}
+use Rattle.word_base.specs.Counted.{Counted, at_count, counted}
+use Rattle.spirv_flow.specs.GoingBack.{goes_back}
 use Rattle.spirv_flow.specs.Layout.{Layout, label, branch, merge, loop_merge, choose, leave, switch, cases, default, pairs, ArePlain}
 use Rattle.spirv_emit.specs.Lanes.{HasAt}
 use Rattle.spirv_flow.specs.Pieces.{IsSettled}

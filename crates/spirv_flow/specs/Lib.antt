@@ -1,4 +1,4 @@
-pub mod Counted
+pub mod GoingBack
 pub mod Emitting
 pub mod Formed
 pub mod Fronts

@@ -5,27 +5,10 @@ use Rattle.std.proofs.lemmas.Bool.{cases_lt}
 use Rattle.word_base.specs.declared.event.Event.{Event}
 use Rattle.word_base.specs.Lanes.{Turn, Silent, Asks, Ends, Wrong, Goes, Meets, Spins, Makes, NeverWrong, SameLanes}
 use Rattle.word_base.specs.Lanes.{Standing, standing, started}
-use Rattle.dispatch_machine.proofs.Stops.{IsStop, no_further, rest_of, one_turn}
+use Rattle.word_base.proofs.Walks.{IsStop, goes_on, no_further, rest_of, first_of, one_turn, meets_later, spins_later}
 
--- WALKS of silent steps.
+-- WALKS of silent steps: what is met behind them.
 module _ {S : Type 0} (step : S → Turn S) where
-  goes_on : (n m : ℕ) (s t u : S) → Goes step n s t → Goes step m t u → Goes step (n + m) s u
-  goes_on zero m s t u g h =
-      let e : m ≡ 0 + m = omega arith in
-      subst (λ k. Goes step k s u) e (subst (λ x. Goes step m x u) (sym g) h)
-  goes_on (suc n) m s t u g h =
-      let e : suc (n + m) ≡ suc n + m = omega arith in
-      subst (λ k. Goes step k s u) e (g.0, g.1, goes_on n m g.0 t u g.2 h)
-
-  first_of : (n m : ℕ) (s u : S) → n ≤ m → Goes step m s u → (t : S) × Goes step n s t
-  first_of zero m s u l h = (s, refl)
-  first_of (suc n) zero s u l h = absurd (omega arith)
-  first_of (suc n) (suc m) s u l h = let k = first_of n m h.0 u (omega arith) h.2 in (k.0, (h.0, h.1, k.1))
-
-  -- what is met in front of silent steps, and behind them
-  meets_before : (n : ℕ) (s t : S) (turn : Turn S) → Goes step n s t → Meets step t turn → Meets step s turn
-  meets_before n s t turn g h = (n + h.0, (h.1.0, goes_on n h.0 s t h.1.0 g h.1.1, h.1.2))
-
   meets_behind : (n : ℕ) (s t : S) (turn : Turn S) → IsStop turn → Goes step n s t → Meets step s turn
       → Meets step t turn
   meets_behind n s t turn stop g h =
@@ -38,16 +21,9 @@ module _ {S : Type 0} (step : S → Turn S) where
       (λ longer.
       let k = spins (m - n) in
       let e : n + (m - n) ≡ m = omega (arith, longer) in
-      (k.0, subst (λ x. Goes step x s k.0) e (goes_on n (m - n) s t k.0 g k.1)))
-      (λ within. first_of m n s t within g)
+      (k.0, subst (λ x. Goes step x s k.0) e (goes_on step n (m - n) s t k.0 g k.1)))
+      (λ within. first_of step m n s t within g)
       (cases_lt n m)
-
-  spins_behind : (n : ℕ) (s t : S) → Goes step n s t → Spins step s → Spins step t
-  spins_behind n s t g spins m =
-      let k = spins (n + m) in
-      let r = rest_of step n (n + m) s t k.0 (omega arith) g k.1 in
-      let e : r.0 ≡ m = omega (arith, r.1) in
-      (k.0, subst (λ x. Goes step x t k.0) e r.2)
 
   -- Under one list of answers a lane comes to one state.
   one_state : (events : List Event) (answers : List ℕ) (s t u : S) → Makes step s events answers t
@@ -72,7 +48,7 @@ module _ {A B : Type 0} (left : A → Turn A) (right : B → Turn B) (a : A) (b 
     made_before [] (w ∷ answers) t m = absurd m
     made_before (e ∷ events) [] t m = absurd m
     made_before (e ∷ events) (w ∷ answers) t m =
-        (t, (m.0, meets_before right n c b (Asks e m.0) front m.1, m.2, m.3))
+        (t, (m.0, meets_later right n c b (Asks e m.0) front m.1, m.2, m.3))
 
     -- silent steps lead from where the one comes to where the other comes
     made_behind : (events : List Event) (answers : List ℕ) (t : B) → Makes right c events answers t
@@ -90,7 +66,7 @@ module _ {A B : Type 0} (left : A → Turn A) (right : B → Turn B) (a : A) (b 
             let x = h.forward.events events answers a' m in made_before events answers x.0 x.1;
         ends = λ events answers a' t m k e.
             let x = made_behind events answers t k in
-            meets_before right x.1 t x.0 Ends x.2 (h.forward.ends events answers a' x.0 m x.3 e);
+            meets_later right x.1 t x.0 Ends x.2 (h.forward.ends events answers a' x.0 m x.3 e);
       };
       back = record {
         events = λ events answers t k.
@@ -104,7 +80,7 @@ module _ {A B : Type 0} (left : A → Turn A) (right : B → Turn B) (a : A) (b 
           spins_before right x.1 t x.0 x.2 (h.spins events answers a' x.0 m x.3 s);
       spins_back = λ events answers a' t m k s.
           let x = made_behind events answers t k in
-          h.spins_back events answers a' x.0 m x.3 (spins_behind right x.1 t x.0 x.2 s);
+          h.spins_back events answers a' x.0 m x.3 (spins_later right x.1 t x.0 s x.2);
       never_wrong = λ events answers t place rule k w.
           let x = made_behind events answers t k in
           h.never_wrong events answers x.0 place rule x.3

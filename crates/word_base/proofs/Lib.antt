@@ -6,3 +6,6 @@ pub mod Bounds
 pub mod ShiftedFields
 pub mod Turned
 pub mod Ranges
+pub mod Walks
+pub mod Simulation
+pub mod Uncounted

@@ -2,8 +2,9 @@
 //! events of a lane of a compute shader.
 //!
 //! The definitions that the contracts cite stand in `specs/`: `Words` for words and bytes, `Rules`
-//! for the order of refusals, `Lanes` for machines that make events, `Settings` for what a lane is
-//! given, `Bits` and `Alu` for the arithmetic of instructions.
+//! for the order of refusals, `Lanes` for machines that make events, `Counted` for those that count what
+//! their silent steps cost, `Settings` for what a lane is given, `Bits` and `Alu` for the arithmetic of
+//! instructions.
 #![tactic(auto)]
 
 mod arithmetic;

@@ -14,7 +14,8 @@ use Rattle.spirv_emit.specs.Emission.{spaces_of}
 use Rattle.spirv_emit.specs.declared.emitter.Emitter.{Emitter as Emission}
 use Rattle.spirv_emit.specs.Growing.{Completes}
 use Rattle.spirv_emit.specs.Lanes.{Site, HasAt}
-use Rattle.spirv_flow.specs.Counted.{Counted, at_count, counted, goes_back}
+use Rattle.word_base.specs.Counted.{Counted, at_count, counted}
+use Rattle.spirv_flow.specs.GoingBack.{goes_back}
 use Rattle.spirv_flow.specs.Layout.{code_of, leave}
 use Rattle.spirv_flow.specs.Lowers.{Holds, Lowers}
 use Rattle.spirv_flow.specs.Pieces.{HasSingleLabels}

@@ -13,7 +13,8 @@ use Rattle.shader_check.specs.Statements.{IsNested}
 use Rattle.shader_tree.specs.Lane.{State as TreeState, start as tree_start, step as tree_step}
 use Rattle.raise_operands.specs.Raises.{IsChecked}
 use Rattle.raise_operands.specs.Vectors.{spaces_of}
-use Rattle.raise_program.specs.Counted.{Counted, at_count, counted, times_back}
+use Rattle.word_base.specs.Counted.{Counted, at_count, counted}
+use Rattle.raise_program.specs.GoingBack.{times_back}
 use Rattle.raise_program.specs.Parts.{parts_of}
 use Rattle.raise_program.specs.Raised.{raised}
 

@@ -2,7 +2,7 @@
 use Rattle.std.proofs.Common.{◌≡◌, ℕ, zero, suc, ◌+◌, List, [], ◌∷◌, refl, sym, ap, subst}
 use Rattle.word_base.specs.declared.event.Event.{Event}
 use Rattle.word_base.specs.Lanes.{Turn, Silent, Asks, Ends, Wrong, Goes, Meets, Spins, Makes, SameLanes}
-use Rattle.spirv_flow.specs.Counted.{Counted, at_count, with_count, counted}
+use Rattle.word_base.specs.Counted.{Counted, at_count, with_count, counted}
 
 module _ {S : Type 0} (step : S → Turn S) (cost : S → S → ℕ) where
   abbrev right : Counted S → Turn (Counted S)
@@ -99,8 +99,32 @@ module _ {S : Type 0} (step : S → Turn S) (cost : S → S → ℕ) where
   spins_up : (s : S) (n : ℕ) → Spins step s → Spins right (at_count s n)
   spins_up s n h k = let g = h k in let u = goes_up k s g.0 n g.1 in (at_count g.0 u.0, u.1)
 
-  pub uncounted : {A : Type 0} (left : A → Turn A) (a : A) (s : S) (n : ℕ) → SameLanes left right a (at_count s n) → SameLanes left step a s
-  uncounted left a s n same = record {
+  pub first_uncounted : {B : Type 0} (other : B → Turn B) (s : S) (n : ℕ) (b : B) → SameLanes right other (at_count s n) b → SameLanes step other s b
+  first_uncounted other s n b same = record {
+    forward = record {
+      events = λ events answers s' h. let u = makes_up events answers s s' n h in same.forward.events events answers (at_count s' u.0) u.1;
+      ends = λ events answers s' b' h k m.
+          let u = makes_up events answers s s' n h in
+          same.forward.ends events answers (at_count s' u.0) b' u.1 k (meets_end_up s' u.0 m);
+    };
+    back = record {
+      events = λ events answers b' h. let k = same.back.events events answers b' h in
+          (k.0.state, makes_down events answers (at_count s n) k.0 k.1);
+      ends = λ events answers b' s' h k m.
+          let u = makes_up events answers s s' n k in
+          meets_end_down (at_count s' u.0) (same.back.ends events answers b' (at_count s' u.0) h u.1 m);
+    };
+    spins = λ events answers s' b' h k m.
+        let u = makes_up events answers s s' n h in
+        same.spins events answers (at_count s' u.0) b' u.1 k (spins_up s' u.0 m);
+    spins_back = λ events answers s' b' h k m.
+        let u = makes_up events answers s s' n h in
+        spins_down (at_count s' u.0) (same.spins_back events answers (at_count s' u.0) b' u.1 k m);
+    never_wrong = same.never_wrong;
+  }
+
+  pub second_uncounted : {A : Type 0} (left : A → Turn A) (a : A) (s : S) (n : ℕ) → SameLanes left right a (at_count s n) → SameLanes left step a s
+  second_uncounted left a s n same = record {
     forward = record {
       events = λ events answers a' h. let k = same.forward.events events answers a' h in
           (k.0.state, makes_down events answers (at_count s n) k.0 k.1);

@@ -1,7 +1,6 @@
--- Lanes that count what their silent steps cost, and how often the lane of a program goes back.
-use Rattle.std.specs.Prelude.{ℕ, ◌+◌, nat_le, if◌then◌else◌}
+-- Lanes that count what their silent steps cost.
+use Rattle.std.specs.Prelude.{ℕ, ◌+◌}
 use Rattle.word_base.specs.Lanes.{Turn, Silent, Asks, Ends, Wrong}
-use Rattle.tpf_program.specs.Bytecode.{State}
 
 pub record Counted (S : Type 0) : Type 0 where
   pub state : S
@@ -18,7 +17,3 @@ with_count cost s n (Wrong place rule) = Wrong place rule
 
 abbrev pub counted : {S : Type 0} → (S → Turn S) → (S → S → ℕ) → Counted S → Turn (Counted S)
 counted step cost x = with_count cost x.state x.count (step x.state)
-
--- A program's lane goes back where its next place does not stand behind the last one.
-abbrev pub times_back : State → State → ℕ
-times_back s t = if nat_le t.place s.place then 1 else 0

@@ -4,7 +4,7 @@ use Rattle.std.proofs.Math.Nat.{mul-le-mul_left}
 use Rattle.std.proofs.lemmas.Bool.{cases_lt}
 use Rattle.word_base.specs.declared.event.Event.{Event}
 use Rattle.word_base.specs.Lanes.{Turn, Silent, Asks, Ends, Wrong, Goes, Meets, Spins, Makes, SameLanes}
-use Rattle.raise_program.proofs.Walks.{IsStop, goes_on, meets_later, no_further, rest_of, first_of, one_turn, no_stop, spins_later}
+use Rattle.word_base.proofs.Walks.{IsStop, goes_on, meets_later, no_further, rest_of, first_of, one_turn, no_stop, spins_later}
 
 -- What the right lane owes where the left one takes that turn: to a silent step any number of silent steps, none only where the measure
 -- falls; to a stop the same stop.
