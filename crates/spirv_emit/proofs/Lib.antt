@@ -15,12 +15,13 @@ mod Groups
 mod Growth
 mod Ordered
 mod Kept
-mod Links
-mod Lists
+pub mod Links
+pub mod Lists
 mod Memory
 mod Opening
 mod Operators
 mod Operands
+pub mod Staying
 mod Parts
 mod Room
 mod Saves

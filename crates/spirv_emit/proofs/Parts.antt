@@ -30,7 +30,8 @@ use Rattle.spirv_emit.specs.Joins.{given, joined}
 use Rattle.spirv_emit.specs.Values.{Slot, slot, Meaning, Gives, Emitted, valued, type_of_term}
 use Rattle.spirv_emit.proofs.Giving.{then'}
 use Rattle.spirv_emit.proofs.Groups.{start}
-use Rattle.spirv_emit.proofs.Lists.{and_left, and_right, and_join, each_front, each_back, each_by}
+use Rattle.spirv_emit.proofs.Lists.{and_left, and_right, and_join, each_front, each_back}
+use Rattle.spirv_emit.proofs.Staying.{room_there, thread_there, names_stay}
 
 -- P holds of the ids of all names.
 abbrev pub All : (ℕ → Type 0) → List Name → Type 0
@@ -76,12 +77,6 @@ module _ {X : Type 0} (join : X → X → X) (f : Term → X) (Q : X → Type 0)
   parts_hold (expr.Compare how a b) h = two_parts _ a b h
   parts_hold (expr.Both a b) h = two_parts _ a b h
 
-abbrev room_there : Emission → Room → Type 0
-room_there e room = IsThere e.symbols.entries (Memory room)
-
-abbrev thread_there : Emission → Kind → Type 0
-thread_there e k = IsThere e.symbols.entries (Input (built_in_of k))
-
 names_gather : (e : Emission) (g : ℕ → Term) (ns : List Name) → All (λ id. Each (IsSpaceThere e) (spaces_in (g id))) ns
     → All (λ id. Each (room_there e) (rooms_in (g id))) ns
     → All (λ id. Each (thread_there e) (threads_in (g id))) ns → (e.frame.separate ≡ true → All (λ id. IsTrue (holds_no is_searched (g id))) ns)
@@ -99,35 +94,6 @@ names_split e g x h = names_gather e g (named (node.Expr x))
     (parts_hold (λ xs ys. xs ++ ys) rooms_at (Each (room_there e)) (each_front (room_there e)) (each_back (room_there e)) g x h.rooms)
     (parts_hold (λ xs ys. xs ++ ys) threads_at (Each (thread_there e)) (each_front (thread_there e)) (each_back (thread_there e)) g x h.threads)
     (λ q. parts_hold (λ a b. a && b) (λ x. not (is_searched x)) IsTrue and_left and_right g x (h.direct q))
-
--- What may be named stays so while code is added.
-module _ (a b : Emission) (seg : List Instr) (g : Grows a b seg) where
-  there_stays : (s : Symbol) → IsThere a.symbols.entries s → IsThere b.symbols.entries s
-  there_stays s h = (h.0, g.has s h.0 h.1)
-
-  place_stays : (slot : ℕ) (place : Place) → IsPlaceThere a.symbols.entries slot place → IsPlaceThere b.symbols.entries slot place
-  place_stays slot (Bound set binding) h = there_stays (Uniform slot) h
-  place_stays slot (InPush first count) h = λ lt. there_stays Push (h lt)
-
-  buffer_stays : (x : Option ConstantBuffer) → IsBufferThere a.symbols.entries x → IsBufferThere b.symbols.entries x
-  buffer_stays None h = h
-  buffer_stays (Some x) h = place_stays x.slot x.place h
-
-  pub space_stays : (s : Space) → IsSpaceThere a s → IsSpaceThere b s
-  space_stays space.Temps h = λ q. there_stays Registers (h (ap (λ f. f.separate) (sym g.same.frame) ∙ q))
-  space_stays (space.Indexable slot) h = there_stays (Elements slot) h
-  space_stays (space.Constant slot) h =
-      subst (λ (f : Frame). IsBufferThere b.symbols.entries (buffer_of f.buffers.list slot)) (sym g.same.frame)
-      (buffer_stays (buffer_of a.frame.buffers.list slot) h)
-  space_stays space.ImmediateConstant h = there_stays ImmediateArray h
-
-  pub names_stay : (x : Term) → Names a x → Names b x
-  names_stay x h = record {
-    spaces = each_by (IsSpaceThere a) (IsSpaceThere b) (spaces_in x) space_stays h.spaces;
-    rooms = each_by (room_there a) (room_there b) (rooms_in x) (λ r. there_stays (Memory r)) h.rooms;
-    threads = each_by (thread_there a) (thread_there b) (threads_in x) (λ k. there_stays (Input (built_in_of k))) h.threads;
-    direct = λ q. h.direct (ap (λ f. f.separate) (sym g.same.frame) ∙ q);
-  }
 
 -- THE TYPE of a node's value is that of its sort.
 abbrev pub type_of_sort : Sort → TypeSymbol

@@ -27,7 +27,8 @@ use Rattle.spirv_emit.specs.Emission.{Emission, Frame, words_left, ids_left, buf
 use Rattle.spirv_emit.specs.Expressions.{May, Did}
 use Rattle.spirv_emit.specs.Growing.{Grows}
 use Rattle.spirv_emit.specs.Values.{slot, a_word, Gives, Emitted, valued, type_of_term}
-use Rattle.spirv_emit.proofs.Lists.{and_left, and_right, each_front, each_back, each_by}
+use Rattle.spirv_emit.proofs.Lists.{and_left, and_right, each_front, each_back}
+use Rattle.spirv_emit.proofs.Staying.{names_stay}
 
 -- an expression that is a word has the type of words
 word_sorted : (f : ℕ → Term) (n : Option Node) → IsTrue (is_of_sort AWord n) → type_of_term (term_for f n) ≡ symbol.Word
@@ -104,37 +105,6 @@ atomic_names e n q x kind y w h = (
   },
 )
 
--- NAMES ARE THERE in all that grows.
-module _ (a b : Emission) (seg : List Instr) (g : Grows a b seg) where
-  pub there_later : (s : Symbol) → IsThere a.symbols.entries s → IsThere b.symbols.entries s
-  there_later s h = (h.0, g.has s h.0 h.1)
-
-  place_later : (slot : ℕ) (place : Place) → IsPlaceThere a.symbols.entries slot place → IsPlaceThere b.symbols.entries slot place
-  place_later slot (Bound set binding) h = there_later (Uniform slot) h
-  place_later slot (InPush first count) h = λ lt. there_later Push (h lt)
-
-  buffer_later : (o : Option ConstantBuffer) → IsBufferThere a.symbols.entries o → IsBufferThere b.symbols.entries o
-  buffer_later None h = h
-  buffer_later (Some c) h = place_later c.slot c.place h
-
-  space_later : (s : Space) → IsSpaceThere a s → IsSpaceThere b s
-  space_later space.Temps h = λ e. there_later _ (h (ap (λ (f : Frame). f.separate) (sym g.same.frame) ∙ e))
-  space_later (space.Indexable slot) h = there_later _ h
-  space_later (space.Constant slot) h =
-      subst (λ (f : Frame). IsBufferThere b.symbols.entries (buffer_of f.buffers.list slot)) (sym g.same.frame)
-      (buffer_later (buffer_of a.frame.buffers.list slot) h)
-  space_later space.ImmediateConstant h = there_later _ h
-
-  pub names_later : (x : Term) → Names a x → Names b x
-  names_later x h = record {
-    spaces = each_by (IsSpaceThere a) (IsSpaceThere b) (spaces_in x) space_later h.spaces;
-    rooms = each_by (λ r. IsThere a.symbols.entries (Memory r)) (λ r. IsThere b.symbols.entries (Memory r)) (rooms_in x) (λ r. there_later (Memory r))
-        h.rooms;
-    threads = each_by (λ k. IsThere a.symbols.entries (Input (built_in_of k))) (λ k. IsThere b.symbols.entries (Input (built_in_of k))) (threads_in x)
-        (λ k. there_later (Input (built_in_of k))) h.threads;
-    direct = λ s. h.direct (ap (λ (f : Frame). f.separate) (sym g.same.frame) ∙ s);
-  }
-
 -- the first and the second of two expressions of a statement with such costs
 pub may_first : (ns : List Node) (e : Emission) (id : ℕ) (w i : ℕ) → IsTrue (has ns (nodes.a_word id)) → IsBegun e → Names e (term_at ns id)
     → words_in (term_at ns id) + w ≤ words_left e → ids_in (term_at ns id) + i ≤ ids_left e → May ns e id
@@ -155,7 +125,7 @@ may_second ns a b one id r w i h d n words ids =
     record {
       expression = word_is_expr ns id h;
       begun = d.begun;
-      names = names_later a b d.emitted.gives.seg d.emitted.gives.grows (term_at ns id) n;
+      names = names_stay a b d.emitted.gives.seg d.emitted.gives.grows (term_at ns id) n;
       words = omega (arith, words, dw);
       ids = omega (arith, ids, di);
     }
@@ -169,7 +139,7 @@ may_third ns a b d one two id r q h x y n words ids =
     record {
       expression = word_is_expr ns id h;
       begun = y.begun;
-      names = names_later b d y.emitted.gives.seg y.emitted.gives.grows (term_at ns id) (names_later a b x.emitted.gives.seg x.emitted.gives.grows
+      names = names_stay b d y.emitted.gives.seg y.emitted.gives.grows (term_at ns id) (names_stay a b x.emitted.gives.seg x.emitted.gives.grows
           (term_at ns id) n);
       words = omega (arith, words, xw, yw);
       ids = omega (arith, ids, xi, yi);

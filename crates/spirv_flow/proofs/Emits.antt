@@ -32,7 +32,8 @@ use Rattle.spirv_flow.specs.Lowers.{Lowers, marks}
 use Rattle.spirv_flow.proofs.Composing.{IsGrowth}
 use Rattle.spirv_flow.proofs.Pieces.{Front, Flush, front, flush}
 use Rattle.spirv_flow.proofs.Constructs.{Body as BodyOf, AwayFront, away_front, lowers_guard, lowers_choice, lowers_loop, lowers_switch, lowers_case, lowers_default, lowers_both, lowers_break, lowers_continue, lowers_return}
-use Rattle.spirv_flow.proofs.Fits.{and_left, and_right, guard_fit, then_fit, switch_fit, loop_fit, case_fit, default_fit, choice_fit, fit_stays}
+use Rattle.spirv_emit.proofs.Lists.{and_left, and_right}
+use Rattle.spirv_flow.proofs.Fits.{guard_fit, then_fit, switch_fit, loop_fit, case_fit, default_fit, choice_fit, fit_stays}
 use Rattle.spirv_flow.proofs.Marked.{paid_words, paid_ids, no_marks_in, any_place}
 
 -- STRAIGHT CODE, as spirv_emit says it.

@@ -13,7 +13,7 @@ use Rattle.shader_tree.specs.Terms.{Term, Word, Scratch, Compare, Set, Guard, Lo
 use Rattle.shader_tree.specs.Trees.{Grown}
 use Rattle.spirv_emit.specs.declared.emitter.Emitter.{Emitter as Emission}
 use Rattle.spirv_flow.specs.Emitting.{FitsTree, root_of}
-use Rattle.spirv_flow.proofs.Fits.{and_left, and_right}
+use Rattle.spirv_emit.proofs.Lists.{and_left, and_right}
 use Rattle.spirv_flow.proofs.Marked.{at_most}
 
 -- EACH NODE of a list fits behind those in front of it.

@@ -21,36 +21,11 @@ use Rattle.spirv_emit.specs.Emission.{buffer_of}
 use Rattle.spirv_emit.specs.declared.emitter.Emitter.{Emitter as Emission}
 use Rattle.spirv_emit.specs.declared.emitter.Frame.{Frame}
 use Rattle.spirv_emit.specs.Growing.{Grows}
+use Rattle.spirv_emit.proofs.Lists.{and_left, and_right, each_front, each_back}
+use Rattle.spirv_emit.proofs.Staying.{room_there, thread_there, names_stay}
 use Rattle.spirv_flow.specs.Emitting.{IsFit}
 
--- LISTS AND TESTS.
-each_front : {X : Type 0} (P : X → Type 0) (xs ys : List X) → Each P (xs ++ ys) → Each P xs
-each_front P [] ys h = tt
-each_front P (x ∷ xs) ys h = (h.0, each_front P xs ys h.1)
-
-each_back : {X : Type 0} (P : X → Type 0) (xs ys : List X) → Each P (xs ++ ys) → Each P ys
-each_back P [] ys h = h
-each_back P (x ∷ xs) ys h = each_back P xs ys h.1
-
-pub each_by : {X : Type 0} (P Q : X → Type 0) (xs : List X) → ((x : X) → P x → Q x) → Each P xs → Each Q xs
-each_by P Q [] f h = tt
-each_by P Q (x ∷ xs) f h = (f x h.0, each_by P Q xs f h.1)
-
-pub and_left : (b c : Bool) → IsTrue (b && c) → IsTrue b
-and_left true c h = refl
-and_left false c h = absurd (cc h)
-
-pub and_right : (b c : Bool) → IsTrue (b && c) → IsTrue c
-and_right true c h = h
-and_right false c h = absurd (cc h)
-
 -- WHAT THE WALK GATHERS, in parts.
-abbrev room_there : Emission → Room → Type 0
-room_there e room = IsThere e.symbols.entries (Memory room)
-
-abbrev thread_there : Emission → Kind → Type 0
-thread_there e k = IsThere e.symbols.entries (Input (built_in_of k))
-
 abbrev takes : Room → Type 0
 takes room = takes_stores room ≡ Ok 0
 
@@ -141,33 +116,9 @@ module _ (e : Emission) where
 
 -- WHILE CODE IS ADDED.
 module _ (a b : Emission) (seg : List Instr) (g : Grows a b seg) where
-  there_stays : (s : Symbol) → IsThere a.symbols.entries s → IsThere b.symbols.entries s
-  there_stays s h = (h.0, g.has s h.0 h.1)
-
-  place_stays : (slot : ℕ) (place : Place) → IsPlaceThere a.symbols.entries slot place → IsPlaceThere b.symbols.entries slot place
-  place_stays slot (Bound set binding) h = there_stays (Uniform slot) h
-  place_stays slot (InPush first count) h = λ lt. there_stays Push (h lt)
-
-  buffer_stays : (x : Option ConstantBuffer) → IsBufferThere a.symbols.entries x → IsBufferThere b.symbols.entries x
-  buffer_stays None h = h
-  buffer_stays (Some x) h = place_stays x.slot x.place h
-
-  space_stays : (s : Space) → IsSpaceThere a s → IsSpaceThere b s
-  space_stays space.Temps h = λ q. there_stays Registers (h (ap (λ f. f.separate) (sym g.same.frame) ∙ q))
-  space_stays (space.Indexable slot) h = there_stays (Elements slot) h
-  space_stays (space.Constant slot) h =
-      subst (λ (f : Frame). IsBufferThere b.symbols.entries (buffer_of f.buffers.list slot)) (sym g.same.frame)
-      (buffer_stays (buffer_of a.frame.buffers.list slot) h)
-  space_stays space.ImmediateConstant h = there_stays ImmediateArray h
-
   pub fit_stays : (x : Term) → IsFit a x → IsFit b x
   fit_stays x h = record {
-    names = record {
-      spaces = each_by (IsSpaceThere a) (IsSpaceThere b) (spaces_in x) space_stays h.names.spaces;
-      rooms = each_by (room_there a) (room_there b) (rooms_in x) (λ r. there_stays (Memory r)) h.names.rooms;
-      threads = each_by (thread_there a) (thread_there b) (threads_in x) (λ k. there_stays (Input (built_in_of k))) h.names.threads;
-      direct = λ q. h.names.direct (ap (λ f. f.separate) (sym g.same.frame) ∙ q);
-    };
+    names = names_stay a b seg g x h.names;
     changed = h.changed;
     literals = h.literals;
   }

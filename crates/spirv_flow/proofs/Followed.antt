@@ -17,6 +17,7 @@ use Rattle.spirv_flow.specs.Layout.{Layout, Straight, Both, Guarded, Chosen, Loo
 use Rattle.spirv_emit.specs.Lanes.{HasAt}
 use Rattle.spirv_flow.specs.Pieces.{IsSettled, CarriesOver, Passes, Always, Does, Answers}
 use Rattle.spirv_flow.specs.Lowering.{IsBody, Lowered}
+use Rattle.spirv_emit.proofs.Lists.{code_back, code_front}
 use Rattle.spirv_flow.proofs.Chains.{front, size, IsSmall, front_push, small_push, small_front, small_left, small_renewed, Found, found_else, found}
 use Rattle.spirv_flow.proofs.Following.{Follow, Rest, Pass, Jump, Turns, Closes, chain_of, Stands, Leads, IsTurn, After, Lands, breaks_to, continues_to}
 use Rattle.spirv_flow.proofs.Leaves.{rechained, set_alike, write_alike, load_alike, store_alike, atomic_alike, sync_alike}
@@ -24,7 +25,7 @@ use Rattle.spirv_flow.proofs.Reached as reached
 use Rattle.spirv_flow.proofs.Reached.{Reaches, ReachesWith}
 use Rattle.word_base.proofs.Simulation.{Followed, related, same_lanes}
 use Rattle.spirv_flow.proofs.Sound.{sound_silent, sound_event, sound_here}
-use Rattle.spirv_flow.proofs.Steps.{Labels, has_front, has_back, right, count_back, count_asks, count_ends, branch_step, leave_step, straight}
+use Rattle.spirv_flow.proofs.Steps.{Labels, right, count_back, count_asks, count_ends, branch_step, leave_step, straight}
 use Rattle.spirv_flow.proofs.Switches.{mark_label, switch_target, Finds, finds_either, finds, two_after}
 use Rattle.word_base.proofs.Walks.{goes_on}
 
@@ -182,7 +183,7 @@ module _ (g : Spaces) (m : Machine) (settled : IsSettled m.code) (Table : Type 0
     count_asks m settled law.1 n e law.2 law.5,
     λ a lt.
         let o = law.6 a lt in
-        let left = has_back m.code s.place o.front o.back (subst (λ l. HasAt m.code s.place l) o.parts here) in
+        let left = code_back m.code s.place o.front o.back (subst (λ l. HasAt m.code s.place l) o.parts here) in
         record {
           items = k;
           table = z;
@@ -227,12 +228,12 @@ module _ (g : Spaces) (m : Machine) (settled : IsSettled m.code) (Table : Type 0
       → Behind (p + length (code_of l brk cont ++ back)) b.last k → Behind p b.begun (Rest x l brk cont b.ended ∷ Pass back b.last ∷ k)
   within_body x l back tail brk cont p k b h stands plain behind =
       let c = code_of l brk cont in
-      let here = has_front m.code p (c ++ back) tail h in
+      let here = code_front m.code p (c ++ back) tail h in
       let e : p + length (c ++ back) ≡ p + length c + length back = omega (arith, length-append c back) in (
-        has_front m.code p c back here,
+        code_front m.code p c back here,
         b.lowers,
         record { in_loop = stands.in_loop; in_any = stands.in_any; placed = stands.placed; breaks = stands.breaks; continues = stands.continues },
-        (has_back m.code p c back here, b.passes, plain, subst (λ q. Behind q b.last k) e behind),
+        (code_back m.code p c back here, b.passes, plain, subst (λ q. Behind q b.last k) e behind),
       )
 
   -- a branch and a label directly behind it
@@ -282,18 +283,18 @@ module _ (g : Spaces) (m : Machine) (settled : IsSettled m.code) (Table : Type 0
       let code = code_of u.body brk cont ++ u.back in
       let tail = guard_tail u.inside u.r u.merge code in
       let at = s.place + length u.front in
-      let rest = has_back m.code s.place u.front tail f.0 in
+      let rest = code_back m.code s.place u.front tail f.0 in
       let st = f.2 in
       let end : s.place + length (u.front ++ tail) ≡ at + 1 + 1 + 1 + length code + 2 = length_tail u.front code (branch u.merge ∷ label u.merge ∷ [])
       s.place 0 (merge u.merge) (choose u.r u.inside u.merge) (label u.inside) in
       let behind = jump_behind u.merge (at + 1 + 1 + 1 + length code) u.is_body.last z k u.is_body.is_clean u.behind
-      (has_back m.code (at + 1 + 1 + 1) code (branch u.merge ∷ label u.merge ∷ []) rest.1.1.1) (subst (λ q. Behind q z k) end f.3) in
+      (code_back m.code (at + 1 + 1 + 1) code (branch u.merge ∷ label u.merge ∷ []) rest.1.1.1) (subst (λ q. Behind q z k) end f.3) in
       let inner = within_body x u.body u.back (branch u.merge ∷ label u.merge ∷ []) brk cont (at + 1 + 1 + 1) (Jump u.merge ∷ k) u.is_body rest.1.1.1
       (record { in_loop = st.in_loop; in_any = st.in_any; placed = st.placed.1.0; breaks = st.breaks; continues = st.continues }) st.placed.1.1 behind
       in
       let start = reached.at_once g m settled Table Holds IsClean IsNew carries s n a w holds in
       let r1 = reached.tests g m settled Table Holds IsClean IsNew carries s n s.place e u.front a u.clean u.r w true
-      (has_front m.code s.place u.front tail f.0) st.placed.0 u.tests v start in
+      (code_front m.code s.place u.front tail f.0) st.placed.0 u.tests v start in
       let r2 = reached.merges_with g m settled Table Holds IsClean IsNew carries u.r _ s n at u.merge u.clean w rest.0 r1 in
       let r3 = reached.chooses g m settled Table Holds IsClean IsNew carries u.r true s n (at + 1) (at + 1 + 1 + 1) u.inside u.merge u.clean w
       rest.1.0 (at + 1 + 1, rest.1.1.0, refl) (omega arith) r2 in
@@ -310,15 +311,15 @@ module _ (g : Spaces) (m : Machine) (settled : IsSettled m.code) (Table : Type 0
       let code = code_of u.body brk cont ++ u.back in
       let tail = guard_tail u.inside u.r u.merge code in
       let at = s.place + length u.front in
-      let rest = has_back m.code s.place u.front tail f.0 in
+      let rest = code_back m.code s.place u.front tail f.0 in
       let st = f.2 in
       let end : s.place + length (u.front ++ tail) ≡ at + 1 + 1 + 1 + length code + 1 + 1 = length_tail u.front code
       (branch u.merge ∷ label u.merge ∷ []) s.place 0 (merge u.merge) (choose u.r u.inside u.merge) (label u.inside) ∙ omega arith in
-      let back = has_back m.code (at + 1 + 1 + 1) code (branch u.merge ∷ label u.merge ∷ []) rest.1.1.1 in
+      let back = code_back m.code (at + 1 + 1 + 1) code (branch u.merge ∷ label u.merge ∷ []) rest.1.1.1 in
       let q = at + 1 + 1 + 1 + length code + 1 + 1 in
       let start = reached.at_once g m settled Table Holds IsClean IsNew carries s n a w holds in
       let r1 = reached.tests g m settled Table Holds IsClean IsNew carries s n s.place e u.front a u.clean u.r w false
-      (has_front m.code s.place u.front tail f.0) st.placed.0 u.tests v start in
+      (code_front m.code s.place u.front tail f.0) st.placed.0 u.tests v start in
       let r2 = reached.merges_with g m settled Table Holds IsClean IsNew carries u.r _ s n at u.merge u.clean w rest.0 r1 in
       let r3 = reached.chooses g m settled Table Holds IsClean IsNew carries u.r false s n (at + 1) q u.inside u.merge u.clean w rest.1.0
       (at + 1 + 1 + 1 + length code + 1, back.1.0, refl) (omega arith) r2 in
@@ -371,12 +372,12 @@ module _ (g : Spaces) (m : Machine) (settled : IsSettled m.code) (Table : Type 0
       let last = branch u.merge ∷ label u.merge ∷ [] in
       let tail = choice_tail u.r u.first_label u.second_label u.merge first second in
       let at = s.place + length u.front in
-      let rest = has_back m.code s.place u.front tail f.0 in
+      let rest = code_back m.code s.place u.front tail f.0 in
       let st = f.2 in
       let p = at + 1 + 1 + 1 in
-      let mid = has_back m.code p first (branch u.merge ∷ label u.second_label ∷ (second ++ last)) rest.1.1.1 in
+      let mid = code_back m.code p first (branch u.merge ∷ label u.second_label ∷ (second ++ last)) rest.1.1.1 in
       let q = p + length first + 1 + 1 in
-      let back = has_back m.code q second last mid.1.1 in
+      let back = code_back m.code q second last mid.1.1 in
       let end = length_choice u.front first second s.place u.r u.first_label u.second_label u.merge in
       let behind = subst (λ c. Behind c z k) end f.3 in
       let jump_last = jump_over u.merge (q + length second) (q + length second + 1) u.is_second.last z k u.is_second.is_clean u.behind back.0 back.1.0
@@ -392,7 +393,7 @@ module _ (g : Spaces) (m : Machine) (settled : IsSettled m.code) (Table : Type 0
       jump_last in
       let start = reached.at_once g m settled Table Holds IsClean IsNew carries s n a w holds in
       let r1 = reached.tests g m settled Table Holds IsClean IsNew carries s n s.place e u.front a u.clean u.r w b
-      (has_front m.code s.place u.front tail f.0) st.placed.0 u.tests v start in
+      (code_front m.code s.place u.front tail f.0) st.placed.0 u.tests v start in
       let r2 = reached.merges_with g m settled Table Holds IsClean IsNew carries u.r _ s n at u.merge u.clean w rest.0 r1 in
       chosen b u.first_label u.second_label p q u.clean u.is_first.begun u.is_second.begun
       (Rest x u.first brk cont u.is_first.ended ∷ Pass u.first_back u.is_first.last ∷ Jump u.merge ∷ k)
@@ -520,12 +521,12 @@ module _ (g : Spaces) (m : Machine) (settled : IsSettled m.code) (Table : Type 0
       let code = body ++ u.back in
       let tail = loop_tail u.header u.inside u.continue u.merge code in
       let at = s.place + length u.front in
-      let rest = has_back m.code s.place u.front tail f.0 in
+      let rest = code_back m.code s.place u.front tail f.0 in
       let st = f.2 in
       let head = at + 1 + 1 in
       let inner = head + 1 + 1 + 1 in
-      let here = has_front m.code inner code (branch u.continue ∷ label u.continue ∷ branch u.header ∷ label u.merge ∷ []) rest.1.1.1.1.1 in
-      let back = has_back m.code inner code (branch u.continue ∷ label u.continue ∷ branch u.header ∷ label u.merge ∷ []) rest.1.1.1.1.1 in
+      let here = code_front m.code inner code (branch u.continue ∷ label u.continue ∷ branch u.header ∷ label u.merge ∷ []) rest.1.1.1.1.1 in
+      let back = code_back m.code inner code (branch u.continue ∷ label u.continue ∷ branch u.header ∷ label u.merge ∷ []) rest.1.1.1.1.1 in
       let long : inner + length code ≡ inner + length body + length u.back = omega (arith, length-append body u.back) in
       let p = inner + length code + 1 + 1 in
       let end = length_loop u.front code s.place u.header u.inside u.continue u.merge in
@@ -540,8 +541,8 @@ module _ (g : Spaces) (m : Machine) (settled : IsSettled m.code) (Table : Type 0
         enters = rest.1.1.1.0;
         inner = inner;
         at_inner = (head + 1 + 1, rest.1.1.1.1.0, refl);
-        body_here = has_front m.code inner body u.back here;
-        back_here = has_back m.code inner body u.back here;
+        body_here = code_front m.code inner body u.back here;
+        back_here = code_back m.code inner body u.back here;
         ends = subst (λ q. slice_get m.code q ≡ Some (branch u.continue)) long back.0;
         is_body = u.is_body;
         placed = st.placed.1.0;
@@ -560,7 +561,7 @@ module _ (g : Spaces) (m : Machine) (settled : IsSettled m.code) (Table : Type 0
       } in
       let start = reached.at_once g m settled Table Holds IsClean IsNew carries s n a w holds in
       let r1 = reached.passes g m settled Table Holds IsClean IsNew carries s n s.place u.front a u.clean w
-      (has_front m.code s.place u.front tail f.0) st.placed.0 u.passes start in
+      (code_front m.code s.place u.front tail f.0) st.placed.0 u.passes start in
       let r2 = reached.branches g m settled Table Holds IsClean IsNew carries s n at head u.header u.clean w rest.0 (at + 1, rest.1.0, refl)
       (omega arith) r1 in
       let r3 = enters_body x u.header u.inside u.continue u.merge u.body u.back p u.is_body.begun u.clean k s n w turn u.is_clean r2 in
@@ -585,10 +586,10 @@ module _ (g : Spaces) (m : Machine) (settled : IsSettled m.code) (Table : Type 0
       → Reach s c (s.place + length front + 1 + 1 + 1) b w × (slice_get m.code (s.place + length front + 1 + 1 + 1) ≡ Some leads)
   goes_away front r i e n leads s c a b w here plain law holds =
       let at = s.place + length front in
-      let rest = has_back m.code s.place front (away_tail r i e leads n) here in
+      let rest = code_back m.code s.place front (away_tail r i e leads n) here in
       let start = reached.at_once g m settled Table Holds IsClean IsNew carries s c a w holds in
       let r1 = reached.always g m settled Table Holds IsClean IsNew carries s c s.place front a b r w
-      (has_front m.code s.place front (away_tail r i e leads n) here) plain law start in
+      (code_front m.code s.place front (away_tail r i e leads n) here) plain law start in
       let r2 = reached.merges_with g m settled Table Holds IsClean IsNew carries r _ s c at e b w rest.0 r1 in (
         reached.chooses g m settled Table Holds IsClean IsNew carries r true s c (at + 1) (at + 1 + 1 + 1) i e b w rest.1.0
             (at + 1 + 1, rest.1.1.0, refl) (omega arith) r2,
@@ -674,18 +675,18 @@ module _ (g : Spaces) (m : Machine) (settled : IsSettled m.code) (Table : Type 0
       let code = code_of l brk cont in
       let mark = branch j ∷ label j ∷ [] in
       let at = s.place + length before in
-      let ahead = has_front m.code s.place (before ++ mark) code here in
-      let rest = has_back m.code s.place before mark ahead in
+      let ahead = code_front m.code s.place (before ++ mark) code here in
+      let rest = code_back m.code s.place before mark ahead in
       let e : s.place + length (before ++ mark) ≡ at + 1 + 1 = omega (arith, length-append before mark) in
       let v : s.place + length ((before ++ mark) ++ code) ≡ at + 1 + 1 + length code = omega (arith, length-append (before ++ mark) code, e) in
       let start = reached.at_once g m settled Table Holds IsClean IsNew carries s n a w holds in
-      let r1 = reached.passes g m settled Table Holds IsClean IsNew carries s n s.place before a b w (has_front m.code s.place before mark ahead)
+      let r1 = reached.passes g m settled Table Holds IsClean IsNew carries s n s.place before a b w (code_front m.code s.place before mark ahead)
       plain passes start in
       let r2 = reached.branches g m settled Table Holds IsClean IsNew carries s n at (at + 1 + 1) j b w rest.0 (at + 1, rest.1.0, refl)
       (omega arith) r1 in
       let r3 = reached.renews g m settled Table Holds IsClean IsNew carries s n (at + 1 + 1) b c w clean begun r2 in
       comes t (push x (chain_of k)) w s n (at + 1 + 1) c (Rest x l brk cont z ∷ k) r3
-      (subst (λ q. HasAt m.code q code) e (has_back m.code s.place (before ++ mark) code here), lowered, stands, subst (λ q. Behind q z k) v behind)
+      (subst (λ q. HasAt m.code q code) e (code_back m.code s.place (before ++ mark) code here), lowered, stands, subst (λ q. Behind q z k) v behind)
       refl turn sound small (inr less)
 
   -- A SWITCH.
@@ -747,9 +748,9 @@ module _ (g : Spaces) (m : Machine) (settled : IsSettled m.code) (Table : Type 0
       let tail = switch_tail u.inside u.merge choice code in
       let at = s.place + length u.front in
       let p = at + 1 + 1 + 1 in
-      let rest = has_back m.code s.place u.front tail f.0 in
+      let rest = code_back m.code s.place u.front tail f.0 in
       let st = f.2 in
-      let back = has_back m.code p code last rest.1.1.1 in
+      let back = code_back m.code p code last rest.1.1.1 in
       let q = p + length code + 1 + 1 in
       let end = length_switch u.front code s.place u.inside u.merge choice in
       let behind = subst (λ c. Behind c z k) end f.3 in
@@ -767,7 +768,7 @@ module _ (g : Spaces) (m : Machine) (settled : IsSettled m.code) (Table : Type 0
       (mark_label (Some y) u.body) (mark_label None u.body) case_found default_found in
       let start = reached.at_once g m settled Table Holds IsClean IsNew carries s n a w holds in
       let r1 = reached.measures g m settled Table Holds IsClean IsNew carries s n s.place on u.front a u.clean u.r w y
-      (has_front m.code s.place u.front tail f.0) st.placed.0 u.measures v start in
+      (code_front m.code s.place u.front tail f.0) st.placed.0 u.measures v start in
       let r2 = reached.merges_with g m settled Table Holds IsClean IsNew carries u.r _ s n at u.merge u.clean w rest.0 r1 in
       let few : size x + front chain < N = omega (arith, small.0) in
       switch_lands (tree.state (Run (term.Switch on x) ∷ chain_of k) w n) x s n (at + 1) p q u.merge u.r y body u.clean z w k
@@ -894,10 +895,10 @@ module _ (g : Spaces) (m : Machine) (settled : IsSettled m.code) (Table : Type 0
         place = s.place;
         reached = reached.at_once g m settled Table Holds IsClean IsNew carries s 0 a w holds;
         here = (
-          has_front m.code s.place (code_of l 0 0) (leave ∷ []) here,
+          code_front m.code s.place (code_of l 0 0) (leave ∷ []) here,
           lowered,
           record { in_loop = false; in_any = false; placed = placed; breaks = λ t. absurd (cc); continues = λ t. absurd (cc) },
-          (has_back m.code s.place (code_of l 0 0) (leave ∷ []) here).0,
+          (code_back m.code s.place (code_of l 0 0) (leave ∷ []) here).0,
         );
         chain = refl;
         count = refl;

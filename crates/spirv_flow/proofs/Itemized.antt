@@ -19,10 +19,11 @@ use Rattle.spirv_flow.specs.Fronts.{tail, whole}
 use Rattle.spirv_flow.specs.Layout.{Layout, Straight, Both, Guarded, Chosen, Looped, Switched, CaseAt, DefaultAt, Breaks, Continues, Returns, Case, cases, pairs, label, branch, merge, loop_merge, switch, code_of, ArePlain, Placed}
 use Rattle.spirv_flow.specs.Lowers.{Lowers, times}
 use Rattle.spirv_flow.specs.Shapes.{values, shape_in, HasNoItems}
+use Rattle.spirv_emit.proofs.Links.{shape_append}
 use Rattle.spirv_flow.proofs.Composing.{times_append, times_results}
 use Rattle.spirv_flow.proofs.Members.{Has, has_left, has_right, some_passes}
 use Rattle.spirv_flow.proofs.Numbers.{once}
-use Rattle.spirv_flow.proofs.Shapes.{shape_append, behind_quiet, before_quiet}
+use Rattle.spirv_flow.proofs.Shapes.{behind_quiet, before_quiet}
 
 -- THE LABELS of a layout: of the merge blocks of its loops and switches, and its others.
 abbrev merges_in : Layout → List ℕ

@@ -18,7 +18,7 @@ use Rattle.spirv_emit.specs.Steps.{Lengthens}
 use Rattle.spirv_flow.specs.Marks.{choice, PutsCases, Puts}
 use Rattle.spirv_flow.specs.Layout.{Case, pairs, first_of}
 use Rattle.spirv_flow.specs.Lowers.{marks, cases_of, default_of}
-use Rattle.spirv_flow.proofs.Fits.{and_left, and_right}
+use Rattle.spirv_emit.proofs.Lists.{and_left, and_right}
 
 -- COSTS. The nodes of the marks pay for the labels, and for the words in the instruction of the switch.
 pub paid_words : (x : Term) → 2 * marks x ≤ words_in x

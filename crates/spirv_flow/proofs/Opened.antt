@@ -18,7 +18,7 @@ use Rattle.spirv_emit.specs.declared.emitter.Frame.{Frame}
 use Rattle.spirv_emit.specs.Emission.{buffer_of}
 use Rattle.spirv_emit.specs.Naming.{Opened}
 use Rattle.spirv_flow.specs.Emitting.{IsFit, FitsTree, IsSpaceNamed}
-use Rattle.spirv_flow.proofs.Fits.{each_by}
+use Rattle.spirv_emit.proofs.Lists.{each_by}
 
 -- symbols keep their ids in tables that grow
 abbrev pub AreKept : Type 0

@@ -24,9 +24,10 @@ use Rattle.spirv_emit.specs.Values.{Slot, slot, Meaning, Gives, Emitted, Flushed
 use Rattle.spirv_flow.specs.Layout.{ArePlain}
 use Rattle.spirv_flow.specs.Lowers.{Holds, IsClean, Written, times, AtMost}
 use Rattle.spirv_flow.specs.Pieces as pieces
+use Rattle.spirv_emit.proofs.Lists.{code_back, code_front}
+use Rattle.spirv_emit.proofs.Links.{quiet_both}
 use Rattle.spirv_flow.proofs.Composing.{in_right, behind_append, IsGrowth, written_on}
-use Rattle.spirv_flow.proofs.Shapes.{in_front, behind as behind_code, quiet_both}
-use Rattle.spirv_flow.proofs.Steps.{has_front, has_back}
+use Rattle.spirv_flow.proofs.Shapes.{in_front, behind as behind_code}
 use Rattle.word_base.proofs.Walks.{goes_on}
 use Rattle.spirv_flow.proofs.Defined.{results_are_values}
 use Rattle.spirv_flow.proofs.Numbers.{once}
@@ -140,9 +141,9 @@ module _ (growth : IsGrowth) where
             (record { result = λ z w globals known cg ck kept. (e.gives.known z w globals known ck kept tt).results.0 });
         law = λ z w s t v here holds is.
             let back = growth.back b c x2 z f.gives.grows w in
-            let one = e.gives.law z back tt s t [] (as_value v ∷ []) (standing z x1 a.kept s t (has_front z.machine.code s.place x1 x2 here) holds) tt
+            let one = e.gives.law z back tt s t [] (as_value v ∷ []) (standing z x1 a.kept s t (code_front z.machine.code s.place x1 x2 here) holds) tt
             (ap got_of is) in
-            let there = subst (λ n. HasAt z.machine.code n x2) (sym one.runs.place) (has_back z.machine.code s.place x1 x2 here) in
+            let there = subst (λ n. HasAt z.machine.code n x2) (sym one.runs.place) (code_back z.machine.code s.place x1 x2 here) in
             let two = f.gives.law z w tt one.to t [] [] (record { here = there; mirrors = one.mirrors; words = holds.words }) tt refl in
             let long = length-append x1 x2 in
             record {

@@ -11,30 +11,18 @@ use Rattle.spirv_emit.specs.ModuleShape.{Mark, Seen, marks_of, shape_of}
 use Rattle.spirv_flow.specs.Layout.{Layout, Straight, Both, Case, cases}
 use Rattle.spirv_flow.specs.Lowers.{cases_of, marks}
 use Rattle.spirv_flow.specs.Shapes.{values}
-use Rattle.spirv_flow.proofs.Steps.{has_front, has_back}
+use Rattle.spirv_emit.proofs.Lists.{code_back, code_front}
 
 -- CODE that stands in a module.
 pub in_front : (z : Site) (x y : List Instr) → StandsIn z (x ++ y) → StandsIn z x
-in_front z x y h = (h.0, has_front z.machine.code h.0 x y h.1)
+in_front z x y h = (h.0, code_front z.machine.code h.0 x y h.1)
 
 pub behind : (z : Site) (x y : List Instr) → StandsIn z (x ++ y) → StandsIn z y
-behind z x y h = (h.0 + length x, has_back z.machine.code h.0 x y h.1)
+behind z x y h = (h.0 + length x, code_back z.machine.code h.0 x y h.1)
 
 -- between other pieces
 pub between : (z : Site) (a b x y : List Instr) → StandsIn z (a ++ (b ++ (x ++ y))) → StandsIn z x
 between z a b x y h = in_front z x y (behind z b (x ++ y) (behind z a (b ++ (x ++ y)) h))
-
--- SHAPES.
-pub shape_append : (code : List Instr) (places : Places) (x y : List Instr) → shape_of code places (x ++ y) ≡ shape_of code places x ++ shape_of code
-    places y
-shape_append code places [] y = refl
-shape_append code places (i ∷ x) y =
-    ap (λ l. marks_of code places i ++ l) (shape_append code places x y)
-    ∙ sym (append_assoc (marks_of code places i) (shape_of code places x) (shape_of code places y))
-
-pub quiet_both : (code : List Instr) (places : Places) (x y : List Instr) → shape_of code places x ≡ [] → shape_of code places y ≡ []
-    → shape_of code places (x ++ y) ≡ []
-quiet_both code places x y g h = shape_append code places x y ∙ (ap (λ l. l ++ shape_of code places y) g ∙ h)
 
 -- quiet code in front of a layout, and behind it
 pub behind_quiet : (front rest all : List Mark) → front ≡ [] → rest ≡ all → front ++ rest ≡ all

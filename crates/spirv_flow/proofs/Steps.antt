@@ -16,16 +16,6 @@ use Rattle.spirv_emit.specs.Lanes.{HasAt}
 use Rattle.spirv_flow.specs.Pieces.{IsSettled}
 use Rattle.spirv_flow.proofs.Forward.{goes_on}
 
-pub has_front : (code : List Instr) (at : ℕ) (a b : List Instr) → HasAt code at (a ++ b) → HasAt code at a
-has_front code at [] b h = tt
-has_front code at (i ∷ a) b h = (h.0, has_front code (at + 1) a b h.1)
-
-pub has_back : (code : List Instr) (at : ℕ) (a b : List Instr) → HasAt code at (a ++ b) → HasAt code (at + length a) b
-has_back code at [] b h = let e : at ≡ at + 0 = omega arith in subst (λ n. HasAt code n b) e h
-has_back code at (i ∷ a) b h =
-    let e : at + 1 + length a ≡ at + length (i ∷ a) = omega arith in
-    subst (λ n. HasAt code n b) e (has_back code (at + 1) a b h.1)
-
 abbrev one_if : Bool → ℕ
 one_if b = cond b 1 0
 

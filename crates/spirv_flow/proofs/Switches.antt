@@ -13,8 +13,9 @@ use Rattle.spirv_flow.specs.Layout.{Layout, Straight, Both, Guarded, Chosen, Loo
 use Rattle.spirv_emit.specs.Lanes.{HasAt}
 use Rattle.spirv_flow.specs.Pieces.{IsSettled, CarriesOver}
 use Rattle.spirv_flow.specs.Lowering.{Lowered}
+use Rattle.spirv_emit.proofs.Lists.{code_back, code_front}
 use Rattle.spirv_flow.proofs.Following.{Follow, Rest, chain_of, BreaksTo, ContinuesTo, Stands, After}
-use Rattle.spirv_flow.proofs.Steps.{Labels, has_front, has_back}
+use Rattle.spirv_flow.proofs.Steps.{Labels}
 
 -- the label of the first case with that value
 abbrev pub case_label : ℕ → List Case → Option ℕ
@@ -146,7 +147,7 @@ module _ (g : Spaces) (m : Machine) (settled : IsSettled m.code) (Table : Type 0
       let code = code_of l brk cont in
       let mark = branch to ∷ label to ∷ [] in
       let at = p + length front in
-      let rest = has_back m.code p front mark (has_front m.code p (front ++ mark) code here) in
+      let rest = code_back m.code p front mark (code_front m.code p (front ++ mark) code here) in
       let e : p + length (front ++ mark) ≡ at + 1 + 1 = omega (arith, length-append front mark) in
       let v : p + length ((front ++ mark) ++ code) ≡ at + 1 + 1 + length code = omega (arith, length-append (front ++ mark) code, e) in
       record {
@@ -154,7 +155,7 @@ module _ (g : Spaces) (m : Machine) (settled : IsSettled m.code) (Table : Type 0
         labelled = (at + 1, rest.1.0, refl);
         ahead = omega arith;
         after = (
-          subst (λ q. HasAt m.code q code) e (has_back m.code p (front ++ mark) code here),
+          subst (λ q. HasAt m.code q code) e (code_back m.code p (front ++ mark) code here),
           lowered,
           stands,
           subst (λ q. Behind q z k) v
@@ -205,10 +206,10 @@ module _ (g : Spaces) (m : Machine) (settled : IsSettled m.code) (Table : Type 0
       let c = code_of u brk cont in
       let d = code_of v brk cont in
       let e : p + length (c ++ d) ≡ p + length c + length d = omega (arith, length-append c d) in (
-        has_front m.code p c d here,
+        code_front m.code p c d here,
         first,
         stands_first u v k (Rest y v brk cont z ∷ k) brk cont (λ h. h) (λ h. h) st,
-        (has_back m.code p c d here, second, stands_in u v k brk cont st, subst (λ q. Behind q z k) e behind),
+        (code_back m.code p c d here, second, stands_in u v k brk cont st, subst (λ q. Behind q z k) e behind),
       )
 
   pub finds : (x : Term) (l : Layout) (mark : Option ℕ) (brk cont p : ℕ) (a z : Table) (k : List (Follow Table))

@@ -14,7 +14,8 @@ use Rattle.spirv_emit.specs.Values.{as_value, Gives}
 use Rattle.spirv_emit.specs.Values as value
 use Rattle.spirv_emit.proofs.Arms.{stand, word_by, words_by, three_by, four_by, with_number, quotient_by, product_by, space_by, space_named, literal_short, register_did, wanted}
 use Rattle.spirv_emit.proofs.Operands.{one_parts, two_parts, three_parts, four_parts, picked_parts, both_parts}
-use Rattle.spirv_emit.proofs.Parts.{begins, may, next, did, space_stays}
+use Rattle.spirv_emit.proofs.Parts.{begins, may, next, did}
+use Rattle.spirv_emit.proofs.Staying.{space_stays}
 use Rattle.spirv_emit.proofs.emitter.Emitter.+emit_expression.Goals as goal
 
 pub emit_expression-x-requires : goal.emit_expression-x-requires

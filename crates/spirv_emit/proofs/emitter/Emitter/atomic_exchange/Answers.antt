@@ -3,8 +3,9 @@ use Rattle.word_base.specs.declared.event.Act.TheVariants.{CompareExchange}
 use Rattle.shader_tree.specs.Costs.{words_in, ids_in}
 use Rattle.shader_tree.specs.Terms.{term_at}
 use Rattle.spirv_symbols.specs.declared.symbol.Symbol.TheVariants.{Memory}
+use Rattle.spirv_emit.proofs.Staying.{there_stays}
 use Rattle.spirv_emit.proofs.Changing.{exchange_meets}
-use Rattle.spirv_emit.proofs.StatementParts.{there_later, may_first, may_second, may_third, atomic_names, store_first, store_second}
+use Rattle.spirv_emit.proofs.StatementParts.{may_first, may_second, may_third, atomic_names, store_first, store_second}
 use Rattle.spirv_emit.proofs.emitter.Emitter.atomic_exchange.Goals as goal
 
 pub emit_word-at-requires-clause-may : goal.emit_word-at-requires-clause-may
@@ -37,9 +38,9 @@ emit_word-second-requires-clause-may c =
 pub room_pointer-pointer-requires-clause-there : goal.room_pointer-pointer-requires-clause-there
 room_pointer-pointer-requires-clause-there c =
     let g = c.emit_word-at.ensures.gives in let h = c.emit_word-first.ensures.gives in let k = c.emit_word-second.ensures.gives in
-    there_later c.emit_word-first.new.self c.emit_word-second.new.self k.seg k.grows (Memory c.args.room)
-    (there_later c.emit_word-at.new.self c.emit_word-first.new.self h.seg h.grows (Memory c.args.room)
-    (there_later c.args.self.now c.emit_word-at.new.self g.seg g.grows (Memory c.args.room) c.requires.ready.names.rooms.0))
+    there_stays c.emit_word-first.new.self c.emit_word-second.new.self k.seg k.grows (Memory c.args.room)
+    (there_stays c.emit_word-at.new.self c.emit_word-first.new.self h.seg h.grows (Memory c.args.room)
+    (there_stays c.args.self.now c.emit_word-at.new.self g.seg g.grows (Memory c.args.room) c.requires.ready.names.rooms.0))
 
 pub returns-clause-meets : goal.returns-clause-meets
 returns-clause-meets c =

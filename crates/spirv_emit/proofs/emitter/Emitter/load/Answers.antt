@@ -1,13 +1,13 @@
 use Rattle.spirv_symbols.specs.declared.symbol.Symbol.TheVariants.{Memory}
 use Rattle.shader_tree.specs.Terms.{term_at}
+use Rattle.spirv_emit.proofs.Staying.{there_stays}
 use Rattle.spirv_emit.proofs.Effects.{load_meets}
-use Rattle.spirv_emit.proofs.StatementParts.{there_later}
 use Rattle.spirv_emit.proofs.emitter.Emitter.load.Goals as goal
 
 pub room_pointer-pointer-requires-clause-there : goal.room_pointer-pointer-requires-clause-there
 room_pointer-pointer-requires-clause-there c =
     let g = c.emit_word-at.ensures.gives in
-    there_later c.args.self.now c.emit_word-at.new.self g.seg g.grows (Memory c.args.room) c.requires.ready.names.rooms.0
+    there_stays c.args.self.now c.emit_word-at.new.self g.seg g.grows (Memory c.args.room) c.requires.ready.names.rooms.0
 
 pub returns-clause-meets : goal.returns-clause-meets
 returns-clause-meets c =

@@ -1,8 +1,9 @@
 use Rattle.std.proofs.Common.{arith}
 use Rattle.shader_tree.specs.Costs.{words_in, ids_in}
 use Rattle.shader_tree.specs.Terms.{term_at}
+use Rattle.spirv_emit.proofs.Staying.{there_stays}
 use Rattle.spirv_emit.proofs.LaneWrites.{arrays_alter}
-use Rattle.spirv_emit.proofs.StatementParts.{there_later, may_first, may_second, write_first, write_second}
+use Rattle.spirv_emit.proofs.StatementParts.{may_first, may_second, write_first, write_second}
 use Rattle.spirv_emit.proofs.emitter.Emitter.write_array.Goals as goal
 
 pub emit_word-at-requires-clause-may : goal.emit_word-at-requires-clause-may
@@ -21,8 +22,8 @@ emit_word-word-requires-clause-may c =
 pub id_of-array-requires : goal.id_of-array-requires
 id_of-array-requires c =
     let g = c.emit_word-at.ensures.gives in let h = c.emit_word-word.ensures.gives in
-    there_later c.emit_word-at.new.self c.emit_word-word.new.self h.seg h.grows c.args.variable
-    (there_later c.args.self.now c.emit_word-at.new.self g.seg g.grows c.args.variable c.requires.there)
+    there_stays c.emit_word-at.new.self c.emit_word-word.new.self h.seg h.grows c.args.variable
+    (there_stays c.args.self.now c.emit_word-at.new.self g.seg g.grows c.args.variable c.requires.there)
 
 pub returns-clause-alters : goal.returns-clause-alters
 returns-clause-alters c =
