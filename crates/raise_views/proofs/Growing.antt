@@ -11,35 +11,14 @@ use Rattle.raise_operands.specs.declared.value.Value.TheVariants as value
 use Rattle.raise_operands.specs.Folding.{literal}
 use Rattle.raise_operands.specs.Building.{Grows, IsNode, IsStep, IsValue, StandsFor, known, step_of, term_of}
 use Rattle.raise_operands.specs.Raising.{followed}
+pub use Rattle.raise_operands.proofs.Growing.{as_step, as_term, below, both, extends_on, node_on, step_itself, step_on, value_on}
 use Rattle.raise_views.specs.declared.address.Reach.{Reach}
 use Rattle.raise_views.specs.Making.{base_nodes, next_if}
 use Rattle.raise_views.specs.Reaching.{answered, is_known, keep, keep_by, test}
 
-within : (nodes : List Node) (name : Name) (o : Option Node) → slice_get nodes name.id ≡ o → IsTrue (is_of_sort name.sort o) → name.id < length nodes
-within nodes name None e h = absurd (cc h)
-within nodes name (Some n) e h = slice_get_within nodes name.id n e
-
--- a name of the tree is below its length
-pub below : (nodes : List Node) (s : Sort) (id : ℕ) → IsTrue (has nodes (record { sort = s; id = id })) → id < length nodes
-below nodes s id h = within nodes (record { sort = s; id = id }) (slice_get nodes id) refl h
-
-pub node_on : (old new : List Node) (s : Sort) (id : ℕ) (t : Term) → Extends old new → IsNode old s id t → IsNode new s id t
-node_on old new s id t e n = record {
-  sorted = e.names (record { sort = s; id = id }) n.sorted;
-  term = e.terms id (below old s id n.sorted) ∙ n.term;
-}
-
 pub same_term : (old new : List Node) (s : Sort) (id : ℕ) → Extends old new → IsTrue (has old (record { sort = s; id = id }))
     → term_at new id ≡ term_at old id
 same_term old new s id e h = e.terms id (below old s id h)
-
-pub extends_on : (a b c : List Node) → Extends a b → Extends b c → Extends a c
-extends_on a b c x y = record {
-  count = omega (arith, x.count, y.count);
-  nodes = λ id n e. y.nodes id n (x.nodes id n e);
-  names = λ name h. y.names name (x.names name h);
-  terms = λ id lt. y.terms id (omega (arith, lt, x.count)) ∙ x.terms id lt;
-}
 
 pub grows_on : (a b c : Grown) (m n k : ℕ) → Grows a b m → Grows b c n → m + n ≤ k → Grows a c k
 grows_on a b c m n k x y l = record {
@@ -49,27 +28,7 @@ grows_on a b c m n k x y l = record {
   root = y.root ∙ x.root;
 }
 
-pub as_term : (nodes : List Node) (s : Sort) (id : ℕ) (t u : Term) → IsNode nodes s id t → t ≡ u → IsNode nodes s id u
-as_term nodes s id t u n e = record { sorted = n.sorted; term = n.term ∙ e }
-
-pub as_step : (nodes : List Node) (s : Option ℕ) (t u : Term) → IsStep nodes s t → t ≡ u → IsStep nodes s u
-as_step nodes s t u n e = let P : Term → Type 0 = λ x. IsStep nodes s x in subst P e n
-
-pub step_itself : (nodes : List Node) (s : Option ℕ) (t : Term) → IsStep nodes s t → IsStep nodes s (step_of nodes s)
-step_itself nodes s t n = as_step nodes s t (step_of nodes s) n (sym n.term)
-
-pub step_on : (old new : List Node) (s : Option ℕ) (t : Term) → Extends old new → IsStep old s t → IsStep new s t
-step_on old new None t e n = record { sorted = n.sorted; term = n.term; same = n.same }
-step_on old new (Some id) t e n =
-    let k = node_on old new AStatement id t e (record { sorted = n.sorted; term = n.term }) in
-    record { sorted = k.sorted; term = k.term; same = n.same }
-
--- what a node with two parts asks for, and with three
-pub both : (a b : Bool) → IsTrue a → IsTrue b → IsTrue ((a && (b && true)) && true)
-both true true h k = refl
-both true false h k = absurd (cc k)
-both false b h k = absurd (cc h)
-
+-- what a node with three parts asks for
 pub three : (a b c : Bool) → IsTrue a → IsTrue b → IsTrue c → IsTrue ((a && (b && (c && true))) && true)
 three true true true h k l = refl
 three true true false h k l = absurd (cc l)
@@ -107,12 +66,6 @@ base_least c = base_if (nat_eq c 0)
 
 pub base_most : (c : ℕ) → base_nodes c ≤ 3
 base_most c = most_if (nat_eq c 0)
-
-pub value_on : (old new : List Node) (v : Value) (t : Term) → Extends old new → StandsFor old v t → StandsFor new v t
-value_on old new (value.Literal w) t e s = record { sorted = refl; term = s.term; same = s.same }
-value_on old new (value.Node id) t e s =
-    let k = node_on old new AWord id t e (record { sorted = s.sorted; term = s.term }) in
-    record { sorted = k.sorted; term = k.term; same = s.same }
 
 pub value_itself : (nodes : List Node) (v : Value) (t : Term) → StandsFor nodes v t → IsValue nodes v
 value_itself nodes v t s = record { sorted = s.sorted; term = refl; same = ap literal s.term ∙ s.same }

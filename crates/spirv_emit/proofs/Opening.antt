@@ -17,24 +17,6 @@ use Rattle.spirv_symbols.specs.Starts as starts
 use Rattle.spirv_emit.specs.Emission.{Frame}
 use Rattle.spirv_emit.specs.Lanes.{Site, HasAt, Stands, Holds, meaning}
 
-has_at : (code : List Instr) (at : ℕ) (seg : List Instr) → starts.HasAt code at seg → HasAt code at seg
-has_at code at [] h = tt
-has_at code at (i ∷ is) h = (h.0, has_at code (at + 1) is h.1)
-
-same_meaning : (s : Symbol) (id : ℕ) → starts.meaning s id ≡ meaning s id
-same_meaning (Constant w) id = refl
-same_meaning True id = refl
-same_meaning (Input built_in) id = refl
-same_meaning (Memory room) id = refl
-same_meaning (Uniform slot) id = refl
-same_meaning Push id = refl
-same_meaning (Scratch n) id = refl
-same_meaning (Register k) id = refl
-same_meaning Registers id = refl
-same_meaning (Elements slot) id = refl
-same_meaning ImmediateArray id = refl
-same_meaning s id = refl
-
 -- WORDS
 zero_at : (n i : ℕ) → i < n → slice_get {X = ℕ} (replicate n 0) i ≡ Some 0
 zero_at zero i h = absurd (omega (arith, h))
@@ -76,9 +58,9 @@ module _ (z : Site) (table : Table) (to : State) (e : IsEmpty table)
       → ((s : Symbol) (x : ℕ) (v : Value) → Has z.names s x → starts.meaning s x ≡ Some v → to.values x ≡ Some v)
       → Stands z seg table to (words (λ n. 0) zeros)
   stands_first seg h v = record {
-    here = has_at z.machine.code to.place seg h;
+    here = h;
     mirrors = record {
-      knows = λ s x y g q. v s x y g (same_meaning s x ∙ q);
+      knows = λ s x y g q. v s x y g q;
       ids = λ w id q. absurd (no_id w id q);
       inside = λ w q. absurd (none_waits w q);
       cells = holds;

@@ -28,25 +28,12 @@ use Rattle.spirv_symbols.specs.declared.symbol.TypeSymbol.TheVariants.{Word}
 use Rattle.spirv_symbols.specs.Contexts.{Context}
 use Rattle.spirv_symbols.specs.Contexts as context
 use Rattle.spirv_symbols.specs.declared.entry.Entry.{Entry}
+pub use Rattle.spirv_symbols.specs.Starts.{HasAt, meaning}
 use Rattle.spirv_symbols.specs.Tables.{Has}
 use Rattle.spirv_emit.specs.declared.buffer.ConstantBuffer.{ConstantBuffer}
 use Rattle.spirv_emit.specs.Emission.{Frame, spaces_of, buffer_of, space_of_element, index_of_element}
 
--- WHAT THE ID OF A SYMBOL STANDS FOR: a constant, or where a variable is.
-abbrev pub meaning : Symbol → ℕ → Option Value
-meaning (Constant w) id = Some (value.Word w)
-meaning True id = Some (value.Truth true)
-meaning (Input built_in) id = Some (AtInput built_in 0)
-meaning (Memory room) id = Some (AtRoom room 0)
-meaning (Uniform slot) id = Some (AtConstants slot 0)
-meaning Push id = Some (AtPush 0)
-meaning (Scratch n) id = Some (AtLocal id 0)
-meaning (Register k) id = Some (AtLocal id 0)
-meaning Registers id = Some (AtLocal id 0)
-meaning (Elements slot) id = Some (AtLocal id 0)
-meaning ImmediateArray id = Some (AtLocal id 0)
-meaning s id = None
-
+-- WHAT THE IDS OF SYMBOLS STAND FOR: constants, or where variables are.
 abbrev pub Knows : List Entry → (ℕ → Option Value) → Type 0
 Knows names values = (s : Symbol) (id : ℕ) (v : Value) → Has names s id → meaning s id ≡ Some v → values id ≡ Some v
 
@@ -201,11 +188,6 @@ pub record Mirrors (z : Site) (table : Table) (s : State) (t : Words) : Type 0 w
       → s.values id ≡ Some (value.Word (word_of t w))
   pub inside : (w : Kept) → Among (dirty_in table) w → IsUsed z.frame w × IsInside z.frame w
   pub cells : (y : Symbol) (id : ℕ) → Has z.names y id → Holds z.frame (s.memory id) (dirty_in table) t y
-
--- the code stands there
-abbrev pub HasAt : List Instr → ℕ → List Instr → Type 0
-HasAt code at [] = Unit {0}
-HasAt code at (i ∷ is) = (slice_get code at ≡ Some i) × HasAt code (at + 1) is
 
 -- The lane stands where the code stands, and mirrors the tree's, whose words are below 2 ^ 32.
 pub record Stands (z : Site) (seg : List Instr) (table : Table) (s : State) (t : Words) : Type 0 where

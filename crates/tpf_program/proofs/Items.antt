@@ -8,7 +8,8 @@ use Rattle.tpf_program.specs.declared.declaration.Declared.{Declared}
 use Rattle.tpf_program.specs.declared.instruction.Instruction.{Instruction}
 use Rattle.tpf_program.specs.Program.{Shader}
 use Rattle.tpf_program.specs.Spelling.{arguments, Item, Declares, Types, Does, Lists, Skips, SpellsItem, SpellsItems, Spells, declarations_in, instructions_in, constants_in, typed_in}
-use Rattle.tpf_program.proofs.SameItems.{front_same, declared_same, instructions_same, custom_same, no_custom, no_both, no_typed}
+use Rattle.tpf_decode.proofs.Instructions.{front_same}
+use Rattle.tpf_program.proofs.SameItems.{declared_same, instructions_same, custom_same, no_custom, no_both, no_typed}
 
 pub item_told : (at : ℕ) (x y : Item) (ws vs xs ys : List ℕ) → SpellsItem Base at x ws → SpellsItem Base at y vs → ws ++ xs ≡ vs ++ ys → (x ≡ y) × (xs ≡ ys)
 item_told at (Declares d) (Declares e) ws vs xs ys h k p =

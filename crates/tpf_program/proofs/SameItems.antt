@@ -9,7 +9,7 @@ use Rattle.tpf_decode.specs.Opcodes.{form_of, meaning_of, opcode_table}
 use Rattle.tpf_decode.specs.Declarations.{is_known}
 use Rattle.tpf_decode.specs.Spelling.{SpellsCustom}
 use Rattle.tpf_decode.specs.Spelling as token
-use Rattle.tpf_decode.proofs.Instructions.{instruction_same}
+use Rattle.tpf_decode.proofs.Instructions.{front_same, instruction_same}
 use Rattle.tpf_program.specs.declared.declaration.ViewKind.TheVariants as view
 use Rattle.tpf_program.specs.declared.declaration.SharedKind.TheVariants as shared
 use Rattle.tpf_program.specs.declared.declaration.Declaration.{Declaration}
@@ -18,17 +18,6 @@ use Rattle.tpf_program.specs.declared.declaration.Declared.{Declared}
 use Rattle.tpf_program.specs.declared.instruction.Instruction.{Instruction}
 use Rattle.tpf_program.specs.Spelling.{nothing, nothings, named, operands, arguments, IsDeclaredBy, IsTypedBy, SpellsDeclaration, SpellsTyped, SpellsInstruction}
 use Rattle.tpf_program.proofs.Tables.{custom_unknown, typed_unknown}
-
--- lists of one length that begin alike
-pub front_same : (ws vs xs ys : List ℕ) → length ws ≡ length vs → ws ++ xs ≡ vs ++ ys → (ws ≡ vs) × (xs ≡ ys)
-front_same [] [] xs ys e p = (refl, p)
-front_same [] (v ∷ vs) xs ys e p = absurd (omega arith)
-front_same (w ∷ ws) [] xs ys e p = absurd (omega arith)
-front_same (w ∷ ws) (v ∷ vs) xs ys e p =
-    let q : w ≡ v = cc in
-    let r : ws ++ xs ≡ vs ++ ys = cc in
-    let s = front_same ws vs xs ys (omega arith) r in
-    (ap (λ n. n ∷ ws) q ∙ ap (λ l. v ∷ l) s.0, s.1)
 
 same_length : (ws vs xs ys : List ℕ) → ws ++ xs ≡ vs ++ ys → xs ≡ ys → length ws ≡ length vs
 same_length ws vs xs ys p q = omega (arith, ap length p, ap length q, length-append ws xs, length-append vs ys)
