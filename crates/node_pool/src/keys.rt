@@ -8,14 +8,21 @@ use std::alloc::Global;
 use std::marker::Model;
 use word_base::NoMemory;
 
+/// How many places there are for keys that are found in one step.
+const PLACES: u32 = 1024;
+
 /// Distinct keys in the order in which they were added, with a fixed capacity. Each has an index, a `u32`
-/// counted from 0, and is found in at most 32 steps and one more for each kind of key.
+/// counted from 0. Most are found in one step, the others in at most 32 steps and one more for each kind of key.
+///
+/// Each key has a place, and of the keys of one place the one that was added last is found in one step. A place
+/// may hold any index, since the key at that index is looked at.
 ///
 /// Only `make` takes memory.
 #[derive(Drop)]
 pub struct Keys {
     keys: Pool<Key>,
     links: Pool<Link>,
+    places: [u32; 1024],
 }
 
 impl Model for Keys {
@@ -38,6 +45,13 @@ impl Model for Keys {
     } };
 }
 
+/// The place of a key.
+fn place_of(key: Key) -> usize
+    ensures { result < 1024 }
+{
+    (key.kind.wrapping_mul(61).wrapping_add(key.number) % PLACES) as usize
+}
+
 impl Keys {
     /// Makes an empty list with room for `capacity` keys.
     ///
@@ -49,7 +63,11 @@ impl Keys {
     {
         let keys = Pool::make(alloc, capacity)?;
         let links = Pool::make(alloc, capacity)?;
-        Ok(Keys { keys, links })
+        Ok(Keys {
+            keys,
+            links,
+            places: [0; 1024],
+        })
     }
 
     /// Returns the number of keys.
@@ -82,6 +100,10 @@ impl Keys {
         ensures found { IfSome result (λ i. slice_get self.now.list i ≡ Some key) }
         ensures absent { IfNone result (Contains self.now.list key → ⊥) }
     {
+        let i = self.places[place_of(key)];
+        if i < self.keys.len() && self.keys.get(i) == key {
+            return Some(i);
+        }
         if self.keys.len() == 0 {
             return None;
         }
@@ -97,7 +119,9 @@ impl Keys {
         ensures capacity { self.new.capacity ≡ self.old.capacity }
     {
         plant(&self.keys, &mut self.links, key);
-        self.keys.push(key)
+        let i = self.keys.push(key);
+        self.places[place_of(key)] = i;
+        i
     }
 
     /// Takes all keys out. The capacity stays.

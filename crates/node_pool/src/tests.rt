@@ -126,7 +126,7 @@ fn key_at(keys: &Keys, i: u32) -> Key {
 }
 
 /// What is sought, whether it is added where it is not there, and its index. The keys (0, 0x6BDDB0DB) and
-/// (1, 0) have one path, and the two behind them differ in one bit.
+/// (1, 0) have one path, and the two behind them differ in one bit and share a place.
 #[test]
 fn keys_are_found_by_both_words(rt: HostRuntime) -> Result<(), Fail> {
     let rows = [
@@ -141,6 +141,7 @@ fn keys_are_found_by_both_words(rt: HostRuntime) -> Result<(), Fail> {
         (0, 0xFFFF_0000, true, 5),
         (0, 0x7FFF_0000, true, 6),
         (0, 0xFFFF_0000, false, 5),
+        (0, 0x7FFF_0000, false, 6),
         (1, 0, false, 4),
         (0, 0x6BDD_B0DB, false, 3),
         (1, 1, true, 99),

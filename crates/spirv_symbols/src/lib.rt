@@ -15,7 +15,6 @@ mod module;
 mod naming;
 mod numbered;
 mod putting;
-mod recent;
 mod row;
 mod sorting;
 mod symbol;

@@ -6,10 +6,9 @@ ghost use Rattle.spirv_symbols.specs.Tables.{Table, Has, Absent, AreThere, Stand
 use crate::context::Context;
 use crate::entry::Entry;
 use crate::naming::{key, symbol_at};
-use crate::recent::RecentKeys;
 use crate::row::{Part, part_at, part_count, row_of};
 use crate::symbol::Symbol;
-use node_pool::Pool;
+use node_pool::{Keys, Pool};
 use std::alloc::Global;
 use std::marker::Model;
 use word_base::NoMemory;
@@ -19,7 +18,7 @@ use word_base::NoMemory;
 /// An entry keeps its place and its id, and most are found in one step. Only `make` takes memory.
 #[derive(Drop)]
 pub struct Symbols {
-    keys: RecentKeys,
+    keys: Keys,
     ids: Pool<u32>,
     next: u32,
 }
@@ -50,7 +49,7 @@ impl Symbols {
     pub fn make(alloc: Global, limit: u32) -> Result<Symbols, NoMemory>
         ensures { IfOk result (λ s. s ≡ empty_table limit) }
     {
-        let keys = RecentKeys::make(alloc, limit)?;
+        let keys = Keys::make(alloc, limit)?;
         let ids = Pool::make(alloc, limit)?;
         Ok(Symbols { keys, ids, next: 1 })
     }
