@@ -3,7 +3,7 @@ ghost use Rattle.std.specs.Prelude.{◌≡◌, ◌≤◌, ◌%◌, vec_len, IfOk
 use super::*;
 use crate::defaults::bind;
 use crate::registers::Registers;
-use root_signature::parse;
+use root_signature::{RootSignature, parse};
 use std::alloc::{AllocError, Global};
 use std::process::Abort;
 use std::test::Fail;
@@ -98,20 +98,41 @@ fn has(rt: &impl Abort, bindings: &Bindings, rows: &[(Register, Place)]) {
     }
 }
 
+/// The map has none of these registers.
+fn has_none(rt: &impl Abort, bindings: &Bindings, registers: &[Register]) {
+    for register in registers {
+        assert_eq!(rt; bindings.place_of(*register), None);
+    }
+}
+
+/// The map of these declarations and instructions has these entries, and none of these registers.
+fn has_map(
+    rt: &impl Abort,
+    of: (&[Declaration], &[(u32, u32)]),
+    rows: &[(Register, Place)],
+    missing: &[Register],
+    alloc: Global,
+) -> Result<(), NoMemory> {
+    let bindings = map(alloc, of.0, of.1)?;
+    has(rt, &bindings, rows);
+    has_none(rt, &bindings, missing);
+    Ok(())
+}
+
 #[test]
 fn numbers_registers(rt: HostRuntime) -> Result<(), Fail> {
-    let alloc = rt.alloc();
     // A u# with a counter and one without.
-    let steps = [(178, 0), (179, 0), (173, 1)];
-    let counting = map(alloc, &[uav(0), uav(1)], &steps)?;
-    let rows = [
-        bound(Register::Uav(0), 0, 0),
-        bound(Register::Uav(1), 0, 1),
-        bound(Register::Counter(0), 0, 2),
-    ];
-    has(&rt, &counting, &rows);
-    assert_eq!(rt; counting.place_of(Register::Counter(1)), None);
-    assert_eq!(rt; counting.place_of(Register::Resource(0)), None);
+    has_map(
+        &rt,
+        (&[uav(0), uav(1)], &[(178, 0), (179, 0), (173, 1)]),
+        &[
+            bound(Register::Uav(0), 0, 0),
+            bound(Register::Uav(1), 0, 1),
+            bound(Register::Counter(0), 0, 2),
+        ],
+        &[Register::Counter(1), Register::Resource(0)],
+        rt.alloc(),
+    )?;
     // The last slots of each kind, in another order.
     let declared = [
         uav(63),
@@ -120,17 +141,21 @@ fn numbers_registers(rt: HostRuntime) -> Result<(), Fail> {
         resource(0),
         constants(2),
     ];
-    let last = map(alloc, &declared, &[(179, 63)])?;
-    let rows = [
-        bound(Register::Constant(2), 0, 0),
-        bound(Register::Constant(13), 0, 1),
-        bound(Register::Resource(0), 0, 2),
-        bound(Register::Resource(127), 0, 3),
-        bound(Register::Uav(63), 0, 4),
-        bound(Register::Counter(63), 0, 5),
-    ];
-    has(&rt, &last, &rows);
-    has(&rt, &map(alloc, &[Declaration::Temps(1)], &[])?, &[]);
+    has_map(
+        &rt,
+        (&declared, &[(179, 63)]),
+        &[
+            bound(Register::Constant(2), 0, 0),
+            bound(Register::Constant(13), 0, 1),
+            bound(Register::Resource(0), 0, 2),
+            bound(Register::Resource(127), 0, 3),
+            bound(Register::Uav(63), 0, 4),
+            bound(Register::Counter(63), 0, 5),
+        ],
+        &[],
+        rt.alloc(),
+    )?;
+    has_map(&rt, (&[Declaration::Temps(1)], &[]), &[], &[], rt.alloc())?;
     Ok(())
 }
 
@@ -139,12 +164,17 @@ const SMALLEST: [u8; 28] = [
     0x50, 0, 5, 0, 7, 0, 0, 0, 0x9B, 0, 0, 4, 1, 0, 0, 0, 1, 0, 0, 0, 1, 0, 0, 0, 0x3E, 0, 0, 1,
 ];
 
+/// The map is empty, and complete.
+fn is_nothing(rt: &impl Abort, program: &Program, bindings: &Bindings) {
+    has(rt, bindings, &[]);
+    assert_eq!(rt; complete(program, bindings), Ok(()));
+}
+
 #[test]
 fn binds_nothing(rt: HostRuntime) -> Result<(), Fail> {
     let program = read(rt.alloc(), &SMALLEST)?;
     let bindings = from_default(rt.alloc(), &program)?;
-    has(&rt, &bindings, &[]);
-    assert_eq!(rt; complete(&program, &bindings), Ok(()));
+    is_nothing(&rt, &program, &bindings);
     Ok(())
 }
 
@@ -153,7 +183,15 @@ fn text(rt: &impl Abort, alloc: Global, bytes: &[u8]) -> Result<Bindings, Halt> 
     from_text(alloc, bytes)
 }
 
-/// Texts and the rule that they break, at a line; and where they break none, how many entries there are.
+/// The rule that a text breaks, at a line; and where it breaks none, how many entries there are.
+fn broken(rt: &impl Abort, alloc: Global, bytes: &[u8]) -> (Option<Rule>, u32) {
+    match text(rt, alloc, bytes) {
+        Ok(bindings) => (None, bindings.len()),
+        Err(Halt::Refused(refusal)) => (Some(refusal.rule), refusal.place),
+        Err(Halt::NoMemory) => (None, 999),
+    }
+}
+
 #[test]
 fn texts_break_rules(rt: HostRuntime) {
     let rows = [
@@ -189,12 +227,7 @@ fn texts_break_rules(rt: HostRuntime) {
         (b"u+1 0 0", Some(Rule::B3), 1),
     ];
     for (bytes, rule, place) in rows {
-        let answer = match text(&rt, rt.alloc(), bytes) {
-            Ok(bindings) => (None, bindings.len()),
-            Err(Halt::Refused(refusal)) => (Some(refusal.rule), refusal.place),
-            Err(Halt::NoMemory) => (None, 999),
-        };
-        assert_eq!(rt; answer, (rule, place));
+        assert_eq!(rt; broken(&rt, rt.alloc(), bytes), (rule, place));
     }
 }
 
@@ -234,16 +267,42 @@ fn bytes_of(rt: &impl Abort, alloc: Global, words: &[u32]) -> Result<Vec<u8>, Al
     Ok(bytes)
 }
 
+/// The program of these words.
+fn program_of(rt: &impl Abort, alloc: Global, words: &[u32]) -> Result<Program, Fail> {
+    let bytes = bytes_of(rt, alloc, words)?;
+    Ok(read(alloc, bytes.as_slice())?)
+}
+
+/// The root signature of these words.
+fn root_of(rt: &impl Abort, alloc: Global, words: &[u32]) -> Result<RootSignature, Fail> {
+    let bytes = bytes_of(rt, alloc, words)?;
+    Ok(parse(alloc, bytes.as_slice())?)
+}
+
+/// The map of a root signature for a program.
+fn has_root_map(
+    rt: &impl Abort,
+    alloc: Global,
+    root: &RootSignature,
+    program: &Program,
+) -> Result<(), NoMemory> {
+    let bindings = from_root(alloc, root, program)?;
+    has(
+        rt,
+        &bindings,
+        &[
+            pushed(0, 0, 2),
+            bound(Register::Resource(0), 0, 0),
+            bound(Register::Uav(0), 0, 1),
+        ],
+    );
+    Ok(())
+}
+
 #[test]
 fn root_signatures_give_maps(rt: HostRuntime) -> Result<(), Fail> {
-    let alloc = rt.alloc();
-    let program = read(alloc, bytes_of(&rt, alloc, &HISTOGRAM)?.as_slice())?;
-    let root = parse(alloc, bytes_of(&rt, alloc, &SIGNATURE)?.as_slice())?;
-    let rows = [
-        pushed(0, 0, 2),
-        bound(Register::Resource(0), 0, 0),
-        bound(Register::Uav(0), 0, 1),
-    ];
-    has(&rt, &from_root(alloc, &root, &program)?, &rows);
+    let program = program_of(&rt, rt.alloc(), &HISTOGRAM)?;
+    let root = root_of(&rt, rt.alloc(), &SIGNATURE)?;
+    has_root_map(&rt, rt.alloc(), &root, &program)?;
     Ok(())
 }

@@ -1,5 +1,7 @@
 use super::*;
+use std::alloc::Global;
 use std::fs;
+use std::process::Abort;
 use std::test::Fail;
 
 /// Begins a file and reads twice, two bytes at most each time.
@@ -58,44 +60,58 @@ fn is_output(desk: &MemoryDesk, i: u32, name: &str, bytes: &[u8]) -> bool {
     i < desk.outputs() && desk.output_name(i) == name && desk.output(i) == bytes
 }
 
+/// Reads a file that is not there, and one whose bytes are replaced.
+fn reads_memory(rt: &impl Abort, desk: &mut MemoryDesk) {
+    let mut into = [0; 4];
+    assert_eq!(rt; read_twice(desk, "b", &mut into), Err(Failed));
+    assert_eq!(rt; read_replaced(desk, &mut into), Some(3));
+    assert_eq!(rt; into, [1, 2, 3, 0]);
+    assert_eq!(rt; read_twice(desk, "a", &mut into), Ok((1, 0)));
+    assert_eq!(rt; into, [9, 2, 3, 0]);
+}
+
 #[test]
 fn memory_desk_reads(rt: HostRuntime) -> Result<(), Fail> {
     let mut desk = MemoryDesk::make(rt.alloc(), 0, 0, Vec::new(rt.alloc()))?;
     desk.add("a", &[1, 2, 3])?;
-    let mut into = [0; 4];
-    assert_eq!(rt; read_twice(&mut desk, "b", &mut into), Err(Failed));
-    assert_eq!(rt; read_replaced(&mut desk, &mut into), Some(3));
-    assert_eq!(rt; into, [1, 2, 3, 0]);
-    assert_eq!(rt; read_twice(&mut desk, "a", &mut into), Ok((1, 0)));
-    assert_eq!(rt; into, [9, 2, 3, 0]);
+    reads_memory(&rt, &mut desk);
     Ok(())
+}
+
+/// Writes an output that fits, one that does not, and one too many.
+fn writes_memory(rt: &impl Abort, desk: &mut MemoryDesk) {
+    assert_eq!(rt; write_twice(desk, "x", &[1, 2], &[3]), Ok((2, 1)));
+    assert_eq!(rt; write_twice(desk, "yz", &[4, 5], &[6]), Err(Failed));
+    assert_eq!(rt; write_twice(desk, "", &[], &[]), Err(Failed));
+    assert!(rt; is_output(desk, 0, "x", &[1, 2, 3]));
+    assert!(rt; is_output(desk, 1, "yz", &[4, 5]));
+    assert_eq!(rt; desk.outputs(), 2);
 }
 
 #[test]
 fn memory_desk_writes(rt: HostRuntime) -> Result<(), Fail> {
     let mut desk = MemoryDesk::make(rt.alloc(), 2, 8, Vec::new(rt.alloc()))?;
-    assert_eq!(rt; write_twice(&mut desk, "x", &[1, 2], &[3]), Ok((2, 1)));
-    assert_eq!(rt; write_twice(&mut desk, "yz", &[4, 5], &[6]), Err(Failed));
-    assert_eq!(rt; write_twice(&mut desk, "", &[], &[]), Err(Failed));
-    assert!(rt; is_output(&desk, 0, "x", &[1, 2, 3]));
-    assert!(rt; is_output(&desk, 1, "yz", &[4, 5]));
-    assert_eq!(rt; desk.outputs(), 2);
+    writes_memory(&rt, &mut desk);
     Ok(())
+}
+
+/// How many calls succeed where the one of that number fails.
+fn calls_before(alloc: Global, number: u64) -> Result<u64, Fail> {
+    let mut desk = MemoryDesk::make(alloc, 1, 2, vec![in alloc; number]?)?;
+    desk.add("a", &[7])?;
+    Ok(calls_made(&mut desk))
 }
 
 #[test]
 fn calls_fail_by_number(rt: HostRuntime) -> Result<(), Fail> {
     for number in 1..6u64 {
-        let mut desk = MemoryDesk::make(rt.alloc(), 1, 2, vec![in rt.alloc(); number]?)?;
-        desk.add("a", &[7])?;
-        assert_eq!(rt; calls_made(&mut desk), number - 1);
+        assert_eq!(rt; calls_before(rt.alloc(), number)?, number - 1);
     }
     Ok(())
 }
 
-#[test]
-fn memory_sink_fails(rt: HostRuntime) -> Result<(), Fail> {
-    let mut sink = MemorySink::make(rt.alloc(), 3, vec![in rt.alloc(); 2]?)?;
+/// Writes five pieces.
+fn writes_pieces(rt: &impl Abort, sink: &mut MemorySink) {
     for (piece, answer) in [
         (1, Ok(1)),
         (2, Err(Failed)),
@@ -106,18 +122,29 @@ fn memory_sink_fails(rt: HostRuntime) -> Result<(), Fail> {
         assert_eq!(rt; sink.write(&[piece]), answer);
     }
     assert_eq!(rt; sink.bytes(), [1, 3, 4].as_slice());
+}
+
+#[test]
+fn memory_sink_fails(rt: HostRuntime) -> Result<(), Fail> {
+    let mut sink = MemorySink::make(rt.alloc(), 3, vec![in rt.alloc(); 2]?)?;
+    writes_pieces(&rt, &mut sink);
     Ok(())
+}
+
+/// Reads the input, and as the input a file; and writes.
+fn is_quiet(rt: &impl Abort, desk: &mut QuietDesk) {
+    let mut into = [0; 4];
+    assert_eq!(rt; desk.read(&mut into), Ok(0));
+    assert_eq!(rt; read_twice(desk, "-", &mut into), Ok((2, 1)));
+    assert_eq!(rt; read_twice(desk, "a", &mut into), Ok((2, 1)));
+    assert_eq!(rt; into, [1, 2, 3, 0]);
+    assert_eq!(rt; write_twice(desk, "o", &[1, 2], &[3]), Ok((2, 1)));
 }
 
 #[test]
 fn quiet_ones_never_fail(rt: HostRuntime) -> Result<(), Fail> {
     let mut desk = QuietDesk::make(vec![in rt.alloc(); 1, 2, 3]?);
-    let mut into = [0; 4];
-    assert_eq!(rt; desk.read(&mut into), Ok(0));
-    assert_eq!(rt; read_twice(&mut desk, "-", &mut into), Ok((2, 1)));
-    assert_eq!(rt; read_twice(&mut desk, "a", &mut into), Ok((2, 1)));
-    assert_eq!(rt; into, [1, 2, 3, 0]);
-    assert_eq!(rt; write_twice(&mut desk, "o", &[1, 2], &[3]), Ok((2, 1)));
+    is_quiet(&rt, &mut desk);
     assert_eq!(rt; QuietSink::make().write(&[1, 2, 3]), Ok(3));
     Ok(())
 }
