@@ -4,14 +4,12 @@ use Rattle.std.specs.Borrow.{Bor}
 use Rattle.std.specs.Fmt.{decimal, digits}
 use Rattle.word_base.specs.declared.rule.Refusal.{Refusal}
 use Rattle.word_base.specs.declared.rule.Rule.TheVariants.{C1, M1}
-use Rattle.word_base.specs.Rules.{refusal}
-use Rattle.compiler_cli.specs.Printed.{printed}
+use Rattle.word_base.specs.Rules.{name_of, refusal, text_of}
 
 abbrev pub refusal_line : Refusal → List ℕ
 refusal_line r =
     codes "vkd3d-compiler: "
-    ++ ((printed r.rule).name
-    ++ (codes " at " ++ (decimal r.place ++ (codes ": " ++ ((printed r.rule).text ++ codes "\n")))))
+    ++ (name_of r.rule ++ (codes " at " ++ (decimal r.place ++ (codes ": " ++ (text_of r.rule ++ codes "\n")))))
 
 abbrev pub usage_line : List ℕ
 usage_line = codes "vkd3d-compiler: wrong words\n"

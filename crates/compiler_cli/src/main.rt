@@ -9,7 +9,6 @@
 
 mod failure;
 mod laws;
-mod printed;
 mod report;
 mod run;
 mod streams;

@@ -5,7 +5,6 @@ ghost use Rattle.compiler_cli.specs.Run.{Reports, line_of, status_of, stream};
 ghost use Rattle.compiler_cli.specs.Texts.{joined, refusal_line, usage_line};
 
 use crate::failure::{Failure, Status};
-use crate::printed::{name, text};
 use crate::streams::write_piece;
 use itoa::Buffer;
 use outside::{Failed, Sink};
@@ -66,11 +65,11 @@ fn write_refusal<K: Sink>(sink: &mut K, refusal: Refusal) -> Result<(), Failed>
         sink,
         &[
             "vkd3d-compiler: ",
-            name(refusal.rule),
+            refusal.rule.name(),
             " at ",
             place,
             ": ",
-            text(refusal.rule),
+            refusal.rule.text(),
             "\n",
         ],
     )

@@ -58,7 +58,7 @@ module _ (p : Shader) (nested : IsNested p) (g : Spaces) (setting : Setting) (pa
   later : (n : ℕ) (s t : State) → Goes (step g setting) n s t → (back : Bool) (turn : Turn SpotState) → To t back turn → To s back turn
   later n s t h back (Silent to) c = let j = joined (step g setting) n s t c.0 (state (chain_of parts last to.spot) (words c.1 to.registers)
       (turned back turns)) h c.2 in (j.n, c.1, j.goes)
-  later n s t h back Ends c = let j = joined (step g setting) n s t c.0 c.1 h c.2 in (j.n, c.1, j.goes, c.3)
+  later n s t h back Ends c = let j = joined (step g setting) n s t c.0 c.1 h c.2 in (j.n, c.1, j.goes, c.3, c.4)
   later n s t h back (Asks e after) c = c
   later n s t h back (Wrong place rule) c = c
 
@@ -189,7 +189,7 @@ module _ (p : Shader) (nested : IsNested p) (g : Spaces) (setting : Setting) (pa
   leap_on frames i None a h s = absurd (cc)
   leap_on frames i (Some meaning.Break) a h s = break_on frames (Plain i) scratch h
   leap_on frames i (Some meaning.Continue) a h s = continue_on frames (Plain i) scratch h
-  leap_on frames i (Some meaning.Return) a h s = (0, at (Run term.Return ∷ links parts last frames (Plain i)) scratch, refl, refl)
+  leap_on frames i (Some meaning.Return) a h s = (0, at (Run term.Return ∷ links parts last frames (Plain i)) scratch, refl, refl, refl)
   leap_on frames i (Some meaning.BreakIf) a h s =
       guarded i term.Break (links parts last frames (Plain i)) (λ b. false) (λ b. if b then goes_spot r (left_spot frames (Plain i)) else to_spot r
       (AtEnd frames (Plain i))) (s i refl) by_test
@@ -215,7 +215,7 @@ module _ (p : Shader) (nested : IsNested p) (g : Spaces) (setting : Setting) (pa
       by_test : (left : ℕ → ℕ) (b : Bool)
           → To (at (if b then Run term.Return ∷ links parts last frames (Plain i) else links parts last frames (Plain i)) left) false
           (if b then Ends else to_spot r (AtEnd frames (Plain i)))
-      by_test left true = (0, at (Run term.Return ∷ links parts last frames (Plain i)) left, refl, refl)
+      by_test left true = (0, at (Run term.Return ∷ links parts last frames (Plain i)) left, refl, refl, refl)
       by_test left false = here left (AtEnd frames (Plain i))
   leap_on frames i (Some m) a h s = absurd (cc)
 

@@ -221,10 +221,13 @@ module _ (p : Shader) (nested : IsNested p) (g : Spaces) (setting : Setting) (pa
         turns = sym l.turns;
       }
 
-  -- TURNS
+  -- TURNS. At the ends the counts are equal.
+  abbrev Ended : Counted bytecode.State → State → Type 0
+  Ended c t = c.count ≡ t.turns
+
   abbrev Owes : SpotState → ℕ → Turn SpotState → State → Type 0
   Owes x n turn t =
-      Followed right Same measure (at_count (at_place x) n) (with_count times_back (at_place x) n (in_list turn)) t
+      Followed right Same Ended measure (at_count (at_place x) n) (with_count times_back (at_place x) n (in_list turn)) t
 
   all_of : length p.instructions ≡ size nested.front + 1
   all_of = ap length nested.flat ∙ length-append (flattened nested.front) (nested.last ∷ [])
@@ -273,7 +276,7 @@ module _ (p : Shader) (nested : IsNested p) (g : Spaces) (setting : Setting) (pa
       subst (λ done. Same (at_count (record { place = place_of to.spot; registers = to.registers; answers = done }) (turned back n)) u) (sym k.1) next in
       (c.0, u, c.2, subst (λ m. Same (at_count (at_place to) m) u) (sym count) there, falls x to n c.0 t u back f.1 w e refl c.2)
   on_turn x n t (Asks event after) w h e f k c = absurd c
-  on_turn x n t Ends w h e f k c = c
+  on_turn x n t Ends w h e f k c = (c.0, c.1, c.2, c.3, sym c.4 ∙ e)
   on_turn x n t (Wrong place rule) w h e f k c = absurd c
 
   -- the instruction whose scalar is read is one of the program
@@ -309,10 +312,10 @@ module _ (p : Shader) (nested : IsNested p) (g : Spaces) (setting : Setting) (pa
       (subst (λ u. Comes p g setting parts [] n u (goes_back k x.spot) (spot_step p setting x)) at a)
 
   -- THE END
-  last_owes : (x : SpotState) (n : ℕ) (t : State) → AtLast x t → Owes x n (spot_step p setting x) t
-  last_owes x n t l =
+  last_owes : (x : SpotState) (n : ℕ) (t : State) → t.turns ≡ n → AtLast x t → Owes x n (spot_step p setting x) t
+  last_owes x n t e l =
       let ends : spot_step p setting x ≡ Ends = ap (turn_in (context p setting x.registers) x) l.here in
-      subst (λ turn. Owes x n turn t) (sym ends) (0, t, refl, ap (λ c. right (state c t.words t.turns)) l.none)
+      subst (λ turn. Owes x n turn t) (sym ends) (0, t, refl, ap (λ c. right (state c t.words t.turns)) l.none, sym e)
 
   -- IN A PLAN
   next_answered : (x : SpotState) (w : ℕ) (rest : List Event) (i : Instruction) (k : List Link) (n : ℕ) (u : State)
@@ -413,15 +416,15 @@ module _ (p : Shader) (nested : IsNested p) (g : Spaces) (setting : Setting) (pa
       → Stood x n t → Owes x n (spot_step p setting x) t
   owes x n t m w h e (inl q) = plan_owes x n t m w h e q
   owes x n t m w h e (inr (inl f)) = front_owes x n t m w h f
-  owes x n t m w h e (inr (inr l)) = last_owes x n t l
+  owes x n t m w h e (inr (inr l)) = last_owes x n t e l
 
-  pub keeps : (c : Counted bytecode.State) (t : State) → Same c t → Followed right Same measure c (left c) t
+  pub keeps : (c : Counted bytecode.State) (t : State) → Same c t → Followed right Same Ended measure c (left c) t
   keeps c t r =
       let k = owes r.x c.count t r.settled r.whole r.registers (sym r.turns) r.stood in
       let one = same_step p nested setting r.x r.settled r.whole in
-      let there : Followed right Same measure (at_count (at_place r.x) c.count) (left (at_count (at_place r.x) c.count)) t =
-      subst (λ turn. Followed right Same measure (at_count (at_place r.x) c.count) (with_count times_back (at_place r.x) c.count turn) t) (sym one) k in
-      subst (λ s. Followed right Same measure (at_count s c.count) (left (at_count s c.count)) t) r.here there
+      let there : Followed right Same Ended measure (at_count (at_place r.x) c.count) (left (at_count (at_place r.x) c.count)) t =
+      subst (λ turn. Followed right Same Ended measure (at_count (at_place r.x) c.count) (with_count times_back (at_place r.x) c.count turn) t) (sym one) k in
+      subst (λ s. Followed right Same Ended measure (at_count s c.count) (left (at_count s c.count)) t) r.here there
 
   pub bounded : (c : Counted bytecode.State) (t : State) → Same c t → measure c < length p.instructions + 1
   bounded c t r = omega arith
@@ -433,10 +436,10 @@ module _ (p : Shader) (nested : IsNested p) (g : Spaces) (setting : Setting) (pa
       (record { chain = refl; registers = refl; turns = refl })
 
   pub same_counted : SameLanes left right (at_count bytecode.start 0) (tree.start (raised parts nested.front))
-  same_counted = same_lanes left right Same measure (length p.instructions + 1) keeps bounded _ _ starts
+  same_counted = same_lanes left right Same Ended measure (length p.instructions + 1) keeps bounded _ _ starts
 
   pub same_turns : (events : List Event) (answers : List ℕ) (c : Counted bytecode.State) (t : State)
       → Makes left (at_count bytecode.start 0) events answers c → Makes right (tree.start (raised parts nested.front)) events answers t
       → c.count ≡ t.turns
   same_turns events answers c t h k =
-      (related left right Same measure (length p.instructions + 1) keeps bounded events answers _ c _ t starts h k).turns
+      (related left right Same Ended measure (length p.instructions + 1) keeps bounded events answers _ c _ t starts h k).turns

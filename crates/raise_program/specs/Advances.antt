@@ -66,12 +66,13 @@ module _ (p : Shader) (g : Spaces) (setting : Setting) (parts : Parts) where
 
   -- WHERE A TURN LEADS the tree's lane comes by silent steps: from what is to be run at the spot to what is to be run
   -- at the next, with its registers, and a loop is begun anew where the lane goes back; and to its end where the lane
-  -- ends. There is no event.
+  -- ends, with no loop begun anew. There is no event.
   abbrev pub Comes : List Link → ℕ → State → Bool → Turn SpotState → Type 0
   Comes last turns from back (Silent to) =
       (n : ℕ) × (left : ℕ → ℕ)
       × Goes (step g setting) n from (state (chain_of parts last to.spot) (words left to.registers) (turned back turns))
-  Comes last turns from back Ends = (n : ℕ) × (t : State) × Goes (step g setting) n from t × (step g setting t ≡ Ends)
+  Comes last turns from back Ends =
+      (n : ℕ) × (t : State) × Goes (step g setting) n from t × (step g setting t ≡ Ends) × (t.turns ≡ turns)
   Comes last turns from back other = ⊥
 
   abbrev pub Advances : List Link → Registers → (ℕ → ℕ) → ℕ → Spot → Turn SpotState → Type 0

@@ -6,6 +6,7 @@ use Rattle.tpf_decode.specs.declared.argument.Kind.{Kind}
 use Rattle.shader_tree.specs.declared.node.Space.{Space}
 use Rattle.shader_tree.specs.Terms.{Term}
 use Rattle.shader_tree.specs.Terms as term
+pub use Rattle.word_base.specs.Lists.{Each}
 
 -- what f says of each term that the walk meets, joined in the order of the walk
 module _ {X : Type 0} (join : X → X → X) (f : Term → X) where
@@ -45,10 +46,6 @@ gathered f t = folded (λ xs ys. xs ++ ys) f t
 abbrev pub holds_no : (Term → Bool) → Term → Bool
 holds_no test t = folded (λ a b. a && b) (λ x. not (test x)) t
 
--- P holds of each of what was gathered
-abbrev pub Each : {X : Type 0} → (X → Type 0) → List X → Type 0
-Each P [] = Unit {0}
-Each P (x ∷ xs) = P x × Each P xs
 
 -- WHAT A TERM NAMES: scratch words that are read, thread ids, the spaces that are read or written, those that are
 -- written, the rooms, and those that are changed.

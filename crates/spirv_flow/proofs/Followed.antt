@@ -63,8 +63,12 @@ module _ (g : Spaces) (m : Machine) (settled : IsSettled m.code) (Table : Type 0
   abbrev measure : tree.State → ℕ
   measure t = front t.chain
 
+  -- at the ends the counts are equal
+  abbrev Ended : tree.State → Counted State → Type 0
+  Ended t c = t.turns ≡ c.count
+
   abbrev Owes : Turn tree.State → tree.State → Counted State → Type 0
-  Owes turn t c = Followed (right m settled) Same measure t turn c
+  Owes turn t c = Followed (right m settled) Same Ended measure t turn c
 
   abbrev FollowsFrom : Items → Type 0
   FollowsFrom k =
@@ -111,7 +115,7 @@ module _ (g : Spaces) (m : Machine) (settled : IsSettled m.code) (Table : Type 0
   )
   later (Asks e after) t s n p a w r f =
       (r.steps + f.0, f.1, f.2, goes_on (right m settled) r.steps f.0 (at_count s n) (at_count r.to n) f.1 r.goes f.3, f.4, f.5)
-  later Ends t s n p a w r f = (r.steps + f.0, f.1, goes_on (right m settled) r.steps f.0 (at_count s n) (at_count r.to n) f.1 r.goes f.2, f.3)
+  later Ends t s n p a w r f = (r.steps + f.0, f.1, goes_on (right m settled) r.steps f.0 (at_count s n) (at_count r.to n) f.1 r.goes f.2, f.3, f.4)
   later (Wrong place rule) t s n p a w r f = f
 
   -- from a place that was reached the rest follows
@@ -660,7 +664,7 @@ module _ (g : Spaces) (m : Machine) (settled : IsSettled m.code) (Table : Type 0
       let f = with_layout term.Return l (Both (Straight u.0) (Guarded u.1 u.2 u.3 (Returns u.4))) brk cont s.place a z k u.5 h in
       let r = goes_away u.0 u.1 u.2 u.3 u.4 leave s n a u.6 w f.0 f.2.placed.0 u.7 holds in
       let here = subst (λ q. slice_get m.code q ≡ Some leave) (sym r.0.place) r.1 in
-      (r.0.steps, at_count r.0.to n, r.0.goes, count_ends m settled r.0.to n (leave_step m settled r.0.to here))
+      (r.0.steps, at_count r.0.to n, r.0.goes, count_ends m settled r.0.to n (leave_step m settled r.0.to here), refl)
 
   -- A CASE passes on to what stands behind its label.
   follow_mark : (t : tree.State) (x : Term) (before : List Instr) (j : ℕ) (l : Layout) (brk cont : ℕ) (z : Table) (k : Items) (s : State) (n : ℕ)
@@ -859,7 +863,7 @@ module _ (g : Spaces) (m : Machine) (settled : IsSettled m.code) (Table : Type 0
       next s n z w (subst (λ q. Behind q z k) e f.3) (subst (λ b. Holds b s w) u.1 holds) sound small
 
   follow : (k : Items) → FollowsFrom k
-  follow [] s n a w h holds sound small = (0, at_count s n, refl, count_ends m settled s n (leave_step m settled s h))
+  follow [] s n a w h holds sound small = (0, at_count s n, refl, count_ends m settled s n (leave_step m settled s h), refl)
   follow (Rest x l brk cont z ∷ k) s n a w h holds sound small = follow_rest x l brk cont z k (follow k) s n a w h holds sound small
   follow (Pass code z ∷ k) s n a w h holds sound small = follow_pass code z k (follow k) s n a w h holds sound small
   follow (Jump to ∷ k) s n a w h holds sound small = follow_jump to k (follow k) s n a w h holds sound small
@@ -875,13 +879,13 @@ module _ (g : Spaces) (m : Machine) (settled : IsSettled m.code) (Table : Type 0
       (subst (λ u. NeverWrong tree_step u) (sym at) r.sound) (subst (IsSmall N) r.chain r.small))
 
   pub same_events : (t : tree.State) (c : Counted State) → Same t c → SameLanes tree_step (right m settled) t c
-  same_events t c r = same_lanes tree_step (right m settled) Same measure N keeps (λ u d q. small_front N u.chain q.small) t c r
+  same_events t c r = same_lanes tree_step (right m settled) Same Ended measure N keeps (λ u d q. small_front N u.chain q.small) t c r
 
   -- between the same events the module's lane goes back as often as the tree's begins a loop anew
   pub same_turns : (events : List Event) (answers : List ℕ) (t u : tree.State) (c d : Counted State) → Same t c → Makes tree_step t events answers u
       → Makes (right m settled) c events answers d → u.turns ≡ d.count
   same_turns events answers t u c d r h k =
-      (related tree_step (right m settled) Same measure N keeps (λ v e q. small_front N v.chain q.small) events answers t u c d r h k).count
+      (related tree_step (right m settled) Same Ended measure N keeps (λ v e q. small_front N v.chain q.small) events answers t u c d r h k).count
 
   -- FROM THE START. The lanes stand side by side where the tree's begins and the module's stands in front of the layout's code.
   pub begins : (x : Term) (l : Layout) (s : State) (a z : Table) (w : Words) → size x < N → HasAt m.code s.place (code_of l 0 0 ++ (leave ∷ []))

@@ -61,7 +61,7 @@ stopped_at at token words r h = by_kind (is_custom_data token) refl
     by_length false e c h =
         let some : 0 < length_of token = grind (arith, nat_tests) in
         let fits : length_of token ≤ length words + 1 = grind (arith, nat_tests) in
-        let there = (least.some (head_faults Base (parts_faults (opcode_of token)) at token words) r h).is_broken in
+        let there = (least.first_some (head_faults Base (parts_faults (opcode_of token)) at token words) r h).is_broken in
         inr (record {
           size = ap (λ b. if b then (if is_custom token words then slice_index words 0 else 0) else if is_wrong_length (length words + 1) token then 0 else length_of token) c
               ∙ sym (ap (λ b. if b then 0 else length_of token) e);

@@ -23,7 +23,7 @@ use Rattle.shader_tree.specs.Trees.{Grown}
 use Rattle.shader_tree.specs.Values.{words}
 use Rattle.raise_operands.specs.Vectors.{spaces_of}
 use Rattle.dispatch_machine.specs.SameRuns.{FollowsIn, SameRuns}
-use Rattle.dispatch_machine.proofs.SameLogs.{same_on}
+use Rattle.word_base.proofs.Composing.{same_on}
 use Rattle.spirv_symbols.specs.declared.numbered.Numbered.{Numbered}
 use Rattle.spirv_symbols.specs.Contexts.{IsSmall}
 use Rattle.spirv_symbols.specs.Modules.{interface, module_code}
@@ -44,7 +44,7 @@ use Rattle.translator.proofs.clauses.RaisedClauses.{RaisedClauses}
 use Rattle.translator.proofs.clauses.SameClauses.{SameClauses}
 use Rattle.translator.proofs.clauses.SetupClauses.{SetupClauses}
 use Rattle.translator.proofs.clauses.WordClauses.{WordClauses}
-use Rattle.translator.proofs.FollowStarted.{same_from}
+use Rattle.word_base.proofs.Started.{same_from}
 
 -- the front of code that stands somewhere stands there
 has_front : (code : List Instr) (at : ℕ) (a b : List Instr) → HasAt code at (a ++ b) → HasAt code at a

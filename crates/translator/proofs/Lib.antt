@@ -14,7 +14,6 @@ mod Finishing
 mod Ordering
 mod Forming
 mod Shaping
-mod FollowStarted
 mod Following
 mod Meaning
 mod RoomFor

@@ -1,8 +1,8 @@
 -- The operations on bits are those of the standard library.
-use Rattle.std.proofs.Common.{◌≡◌, ℕ, zero, suc, ◌+◌, ◌-◌, ◌*◌, ◌/◌, ◌%◌, ◌<◌, ◌≤◌, ◌^◌, min, max, pow_mono, inl, inr, refl, sym, ap, ◌∙◌, subst, arith}
+use Rattle.std.proofs.Common.{◌≡◌, ℕ, zero, suc, ◌+◌, ◌*◌, ◌/◌, ◌%◌, ◌<◌, ◌≤◌, ◌^◌, min, max, pow_mono, inl, inr, refl, sym, ap, ◌∙◌, arith}
 use Rattle.std.specs.Prelude.{bit_and, bit_or, bit_xor, count_ones, nat_eq, nat_lt, if◌then◌else◌}
 use Rattle.std.specs.Int.{w32, reverse_bits, reverse_bits_onto, leading_zeros, trailing_zeros}
-use Rattle.std.specs.Int.Count.{ones, ones_step, count_leading_zeros, count_trailing_zeros, under}
+use Rattle.std.specs.Int.Count.{ones, ones_step, count_trailing_zeros, under}
 use Rattle.std.specs.Int.Bits.{and_step, or_step, xor_step, differ}
 use Rattle.std.proofs.lemmas.Nat.{leading_top}
 use Rattle.std.proofs.lemmas.Bool.{cases_lt}

@@ -9,3 +9,8 @@ pub mod Ranges
 pub mod Walks
 pub mod Simulation
 pub mod Uncounted
+pub mod Composing
+pub mod Started
+pub mod Going
+pub mod Truths
+pub mod Lists

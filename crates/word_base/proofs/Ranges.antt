@@ -1,5 +1,5 @@
 -- The words of bytes are words.
-use Rattle.std.proofs.Common.{◌≡◌, ℕ, zero, suc, ◌+◌, ◌*◌, ◌<◌, ◌^◌, List, [], ◌∷◌, refl, arith}
+use Rattle.std.proofs.Common.{ℕ, zero, suc, ◌<◌, ◌^◌, List, [], ◌∷◌, arith}
 use Rattle.std.specs.Prelude.{slice_index}
 use Rattle.word_base.specs.Words.{words_of, AreBytes, AreWords}
 

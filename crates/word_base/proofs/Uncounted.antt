@@ -9,11 +9,19 @@ module _ {S : Type 0} (step : S → Turn S) (cost : S → S → ℕ) where
   right = counted step cost
 
   -- one turn, without the count
-  silent_by : (turn : Turn S) (s : S) (n : ℕ) (y : Counted S) → with_count cost s n turn ≡ Silent y → turn ≡ Silent y.state
+  pub silent_by : (turn : Turn S) (s : S) (n : ℕ) (y : Counted S) → with_count cost s n turn ≡ Silent y → turn ≡ Silent y.state
   silent_by (Silent to) s n y e = let same : at_count to (n + cost s to) ≡ y = cc in ap (λ z. Silent z.state) same
   silent_by (Asks event after) s n y e = absurd (cc)
   silent_by Ends s n y e = absurd (cc)
   silent_by (Wrong place rule) s n y e = absurd (cc)
+
+  pub count_by : (turn : Turn S) (s : S) (n : ℕ) (y : Counted S) → with_count cost s n turn ≡ Silent y → y.count ≡ n + cost s y.state
+  count_by (Silent to) s n y e =
+      let same : at_count to (n + cost s to) ≡ y = cc in
+      subst (λ (z : Counted S). z.count ≡ n + cost s z.state) same refl
+  count_by (Asks event after) s n y e = absurd (cc)
+  count_by Ends s n y e = absurd (cc)
+  count_by (Wrong place rule) s n y e = absurd (cc)
 
   asks_by : (turn : Turn S) (s : S) (n : ℕ) (event : Event) (after : ℕ → Counted S) → with_count cost s n turn ≡ Asks event after
       → (on : ℕ → S) × (turn ≡ Asks event on) × ((λ (a : ℕ). at_count (on a) n) ≡ after)

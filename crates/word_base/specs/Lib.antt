@@ -6,3 +6,5 @@ pub mod Registers
 pub mod Settings
 pub mod Bits
 pub mod Alu
+pub mod Firsts
+pub mod Lists

@@ -1,5 +1,5 @@
 -- What a lane is given beside the answers to its events.
-use Rattle.std.specs.Prelude.{◌≡◌, ℕ, ◌<◌, ◌^◌, List}
+use Rattle.std.specs.Prelude.{ℕ, ◌<◌, ◌^◌, List}
 use Rattle.word_base.specs.declared.event.Ids.{Ids}
 use Rattle.word_base.specs.declared.event.Room.{Room}
 use Rattle.word_base.specs.Words.{AreWords}

@@ -2,7 +2,7 @@
 //! events of a lane of a compute shader.
 //!
 //! The definitions that the contracts cite stand in `specs/`: `Words` for words and bytes, `Rules`
-//! for the order of refusals, `Lanes` for machines that make events, `Counted` for those that count what
+//! for the order of refusals, `Firsts` for the first of a list by any key, `Lanes` for machines that make events, `Counted` for those that count what
 //! their silent steps cost, `Settings` for what a lane is given, `Bits` and `Alu` for the arithmetic of
 //! instructions.
 #![tactic(auto)]
@@ -10,7 +10,7 @@
 mod arithmetic;
 mod event;
 mod laws;
-mod rule;
+pub mod rule;
 #[cfg(test)]
 mod tests;
 mod word;
@@ -21,5 +21,5 @@ pub use arithmetic::{
 };
 pub use event::{Act, Classes, Event, Ids, Room, Scope};
 pub use laws::small_laws;
-pub use rule::{Halt, NoMemory, Refusal, Rule, first_laws};
+pub use rule::{Halt, NoMemory, ROWS, Refusal, Row, Rule, first_by_laws, first_laws};
 pub use word::{byte_laws, field, word_at, word_laws};

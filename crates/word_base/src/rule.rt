@@ -1,13 +1,15 @@
 ghost use Rattle.std.specs.Prelude.{◌≡◌, List, [], Option, Some, None, false, Contains};
 ghost use Rattle.word_base.specs.declared.rule.Refusal.{Refusal};
-ghost use Rattle.word_base.specs.Rules.{first, comes_before, IsFirst};
+ghost use Rattle.word_base.specs.Firsts.{Key, first_by, comes_before_by, IsFirstBy};
+ghost use Rattle.word_base.specs.Rules.{first, comes_before, key_of, IsFirst, name_of, text_of, order_of};
 
 use thiserror::Error;
 
 /// A rule of the input formats or a limit of the translator, by the name that is printed.
 ///
 /// The letters are those of the phases: `M` limits, `C` the container, `K` tokens, `L` declarations,
-/// `S` structure, `G` root signatures, `B` bindings, `X` dispatches, `U` forms not built yet.
+/// `S` structure, `G` root signatures, `B` bindings, `X` dispatches, `Z` modules, their texts
+/// and batches.
 #[derive(Clone, Copy, Debug, PartialEq, Eq)]
 pub enum Rule {
     /// Broken where a file has more than 16,777,216 bytes.
@@ -64,6 +66,8 @@ pub enum Rule {
     K14,
     /// Broken where a global flag is outside the profile.
     K15,
+    /// Broken where a typed view is no buffer, or its words are not all signed or all unsigned integers.
+    K16,
     /// Broken where the same thing is declared twice.
     L1,
     /// Broken where a declaration follows an instruction.
@@ -128,6 +132,118 @@ pub enum Rule {
     X4,
     /// Broken where the first lines of a dispatch text are not those of the form.
     X5,
+    /// Broken where a module is not read.
+    Z1,
+    /// Broken where a line of a module's text is not read.
+    Z2,
+    /// Broken where a line of a batch text is not of the form, or passes a limit.
+    Z3,
+}
+
+/// What a rule has in the table: the name that is printed, what is printed behind its place, the phase in
+/// which it is tested, and its number among the rules of the phase.
+pub type Row = (&'static str, &'static str, u32, u32);
+
+/// The rules, in the order in which `Rule` declares them: name, text, phase and number of each.
+///
+/// The phases follow one another: the sizes of the files and the container (2), the head of the program
+/// (3), its size (4), its tokens (5), its declarations (6), its structure (7), its size with the words
+/// that its typed views grow to (8), the bindings (9), their completeness (10), the dispatch (11), and
+/// modules, their texts and batches (12).
+pub const ROWS: [Row; 63] = [
+    ("M1", "file too large", 2, 0),
+    ("C1", "container shorter than 32 bytes", 2, 1),
+    ("C2", "wrong tag", 2, 2),
+    ("C3", "wrong container version", 2, 3),
+    ("C4", "wrong total size", 2, 4),
+    ("C5", "chunk table does not fit", 2, 5),
+    ("C6", "chunk outside the container", 2, 6),
+    ("C7", "chunk missing", 2, 7),
+    ("C8", "chunk given twice", 2, 8),
+    ("C9", "wrong program size", 2, 9),
+    ("K1", "not cs_5_0", 3, 1),
+    ("K2", "wrong program length", 3, 2),
+    ("M2", "program too long", 4, 0),
+    ("M4", "workspace too small", 4, 1),
+    ("K3", "wrong instruction length", 5, 3),
+    ("K4", "opcode outside the profile", 5, 4),
+    ("K5", "extended opcode outside the profile", 5, 5),
+    ("K6", "wrong component selection", 5, 6),
+    ("K7", "operand type not allowed here", 5, 7),
+    ("K8", "wrong index form", 5, 8),
+    ("K9", "wrong relative index", 5, 9),
+    ("K10", "modifier not allowed here", 5, 10),
+    ("K11", "tokens missing or left over", 5, 11),
+    ("K12", "saturate not allowed", 5, 12),
+    ("K13", "wrong custom data", 5, 13),
+    ("K14", "wrong sync flags", 5, 14),
+    ("K15", "global flag outside the profile", 5, 15),
+    ("K16", "typed view outside the profile", 5, 16),
+    ("L1", "declared twice", 6, 1),
+    ("L2", "declaration after an instruction", 6, 2),
+    ("L3", "declaration past a limit", 6, 3),
+    ("L4", "thread group missing", 6, 4),
+    ("L5", "used but not declared", 6, 5),
+    ("L6", "register past its declaration", 6, 6),
+    ("L7", "wrong stride or size", 6, 7),
+    ("L8", "wrong kind of view", 6, 8),
+    ("S1", "end without opening", 7, 1),
+    ("S2", "opening without end", 7, 2),
+    ("S3", "else out of place", 7, 3),
+    ("S4", "break or continue out of place", 7, 4),
+    ("S5", "case out of place", 7, 5),
+    ("S6", "default given twice", 7, 6),
+    ("S7", "case value given twice", 7, 7),
+    ("S8", "code before the first case", 7, 8),
+    ("S9", "last instruction is not ret", 7, 9),
+    ("M3", "nesting too deep", 7, 10),
+    ("G1", "wrong root signature version", 9, 1),
+    ("G2", "root signature truncated", 9, 2),
+    ("G3", "unknown root signature type", 9, 3),
+    ("G4", "register covered twice", 9, 4),
+    ("G5", "too many root constants", 9, 5),
+    ("G6", "no root signature", 9, 0),
+    ("B1", "register without binding", 10, 1),
+    ("B2", "binding given twice", 9, 2),
+    ("B3", "binding line not read", 9, 3),
+    ("X1", "dispatch line not read", 11, 1),
+    ("X2", "dispatch line given twice", 11, 2),
+    ("X3", "dispatch past a limit", 11, 3),
+    ("X4", "place not declared", 11, 4),
+    ("X5", "side or groups missing", 11, 5),
+    ("Z1", "module not read", 12, 1),
+    ("Z2", "module text not read", 12, 2),
+    ("Z3", "batch line not read", 12, 3),
+];
+
+impl Rule {
+    /// The name that is printed.
+    pub fn name(self) -> &'static str
+        ensures { result.now ≡ name_of self }
+    {
+        ROWS[self as usize].0
+    }
+
+    /// What is printed of the rule behind its place.
+    pub fn text(self) -> &'static str
+        ensures { result.now ≡ text_of self }
+    {
+        ROWS[self as usize].1
+    }
+
+    /// The phase of the translator in which the rule is tested.
+    pub fn phase(self) -> u32
+        ensures { result ≡ (order_of self).phase }
+    {
+        ROWS[self as usize].2
+    }
+
+    /// The number among the rules of the phase.
+    pub fn number(self) -> u32
+        ensures { result ≡ (order_of self).number }
+    {
+        ROWS[self as usize].3
+    }
 }
 
 /// A broken rule with its place: bytes, words or lines from the start of the file or program, as the
@@ -138,6 +254,31 @@ pub struct Refusal {
     pub rule: Rule,
     /// Where it is broken.
     pub place: u32,
+}
+
+impl Refusal {
+    /// The phase of the rule; and behind it, up to the head of the program its number and the place, in a
+    /// later phase the place and its number.
+    fn key(self) -> (u32, u32, u32)
+        ensures { result ≡ ((key_of self).phase, (key_of self).first, (key_of self).second) }
+    {
+        let phase = self.rule.phase();
+        if phase <= 3 {
+            (phase, self.rule.number(), self.place)
+        } else {
+            (phase, self.place, self.rule.number())
+        }
+    }
+
+    /// Whether this refusal is tested before the other: by phase; in a phase up to the head of the program
+    /// by number and then by place, in a later one by place and then by number.
+    pub fn comes_before(self, other: Refusal) -> bool
+        ensures { result ≡ comes_before self other }
+    {
+        let a = self.key();
+        let b = other.key();
+        a.0 < b.0 || a.0 == b.0 && (a.1 < b.1 || a.1 == b.1 && a.2 < b.2)
+    }
 }
 
 /// Memory was wanted and could not be had.
@@ -160,4 +301,12 @@ pub fn first_laws()
     ensures none { (qs : List Refusal) → first qs ≡ None → qs ≡ [] }
     ensures some { (qs : List Refusal) (r : Refusal) → first qs ≡ Some r → IsFirst (Contains qs) r }
     ensures single { (r : Refusal) → comes_before r r ≡ false }
+{}
+
+/// What holds of the first of a list of things by any key, for the proofs of callers. It does nothing when
+/// it runs.
+pub fn first_by_laws<T>()
+    ensures none { (key : T → Key) (qs : List T) → first_by key qs ≡ None → qs ≡ [] }
+    ensures some { (key : T → Key) (qs : List T) (r : T) → first_by key qs ≡ Some r → IsFirstBy key (Contains qs) r }
+    ensures single { (key : T → Key) (r : T) → comes_before_by key r r ≡ false }
 {}

@@ -1,91 +1,10 @@
--- Nobody can tell a lane from itself behind silent steps, nor from a machine that starts with it.
-use Rattle.std.proofs.Common.{◌≡◌, ℕ, zero, suc, ◌+◌, ◌-◌, ◌≤◌, ⊎_elim, List, [], ◌∷◌, Some, refl, sym, ap, ◌∙◌}
-use Rattle.std.proofs.Common.{subst, arith}
-use Rattle.std.proofs.lemmas.Bool.{cases_lt}
+-- Nobody can tell a machine from the one that starts with it, where the start may be missing.
+use Rattle.std.proofs.Common.{◌≡◌, ℕ, zero, suc, List, [], ◌∷◌, Some, refl, sym, ap, ◌∙◌, subst}
 use Rattle.word_base.specs.declared.event.Event.{Event}
 use Rattle.word_base.specs.Lanes.{Turn, Silent, Asks, Ends, Wrong, Goes, Meets, Spins, Makes, NeverWrong, SameLanes}
 use Rattle.word_base.specs.Lanes.{Standing, standing, started}
-use Rattle.word_base.proofs.Walks.{IsStop, goes_on, no_further, rest_of, first_of, one_turn, meets_later, spins_later}
-
--- WALKS of silent steps: what is met behind them.
-module _ {S : Type 0} (step : S → Turn S) where
-  meets_behind : (n : ℕ) (s t : S) (turn : Turn S) → IsStop turn → Goes step n s t → Meets step s turn
-      → Meets step t turn
-  meets_behind n s t turn stop g h =
-      let l = no_further step n h.0 s t h.1.0 g h.1.1 (subst IsStop (sym h.1.2) stop) in
-      let k = rest_of step n h.0 s t h.1.0 l g h.1.1 in
-      (k.0, (h.1.0, k.2, h.1.2))
-
-  spins_before : (n : ℕ) (s t : S) → Goes step n s t → Spins step t → Spins step s
-  spins_before n s t g spins m = ⊎_elim
-      (λ longer.
-      let k = spins (m - n) in
-      let e : n + (m - n) ≡ m = omega (arith, longer) in
-      (k.0, subst (λ x. Goes step x s k.0) e (goes_on step n (m - n) s t k.0 g k.1)))
-      (λ within. first_of step m n s t within g)
-      (cases_lt n m)
-
-  -- Under one list of answers a lane comes to one state.
-  one_state : (events : List Event) (answers : List ℕ) (s t u : S) → Makes step s events answers t
-      → Makes step s events answers u → t ≡ u
-  one_state [] [] s t u h k = sym h ∙ k
-  one_state [] (w ∷ answers) s t u h k = absurd h
-  one_state (e ∷ events) [] s t u h k = absurd h
-  one_state (e ∷ events) (w ∷ answers) s t u h k =
-      let x : Turn S = Asks e h.0 in
-      let y : Turn S = Asks e k.0 in
-      let same : x ≡ y = one_turn step s x y tt tt h.1 k.1 in
-      let afters : k.0 ≡ h.0 = cc in
-      one_state events answers (h.0 w) t u h.3
-      (subst (λ (f : ℕ → S). Makes step (f w) events answers u) afters k.3)
-
--- SILENT STEPS IN FRONT of the second of two lanes that are the same.
-module _ {A B : Type 0} (left : A → Turn A) (right : B → Turn B) (a : A) (b c : B) (n : ℕ) (front : Goes right n c b)
-  where
-    made_before : (events : List Event) (answers : List ℕ) (t : B) → Makes right b events answers t
-        → (u : B) × Makes right c events answers u
-    made_before [] [] t m = (c, refl)
-    made_before [] (w ∷ answers) t m = absurd m
-    made_before (e ∷ events) [] t m = absurd m
-    made_before (e ∷ events) (w ∷ answers) t m =
-        (t, (m.0, meets_later right n c b (Asks e m.0) front m.1, m.2, m.3))
-
-    -- silent steps lead from where the one comes to where the other comes
-    made_behind : (events : List Event) (answers : List ℕ) (t : B) → Makes right c events answers t
-        → (u : B) × (k : ℕ) × Goes right k t u × Makes right b events answers u
-    made_behind [] [] t m = (b, n, subst (λ x. Goes right n x b) m front, refl)
-    made_behind [] (w ∷ answers) t m = absurd m
-    made_behind (e ∷ events) [] t m = absurd m
-    made_behind (e ∷ events) (w ∷ answers) t m =
-        (t, 0, refl, (m.0, meets_behind right n c b (Asks e m.0) tt front m.1, m.2, m.3))
-
-    same_before : SameLanes left right a b → SameLanes left right a c
-    same_before h = record {
-      forward = record {
-        events = λ events answers a' m.
-            let x = h.forward.events events answers a' m in made_before events answers x.0 x.1;
-        ends = λ events answers a' t m k e.
-            let x = made_behind events answers t k in
-            meets_later right x.1 t x.0 Ends x.2 (h.forward.ends events answers a' x.0 m x.3 e);
-      };
-      back = record {
-        events = λ events answers t k.
-            let x = made_behind events answers t k in h.back.events events answers x.0 x.3;
-        ends = λ events answers t a' k m e.
-            let x = made_behind events answers t k in
-            h.back.ends events answers x.0 a' x.3 m (meets_behind right x.1 t x.0 Ends tt x.2 e);
-      };
-      spins = λ events answers a' t m k s.
-          let x = made_behind events answers t k in
-          spins_before right x.1 t x.0 x.2 (h.spins events answers a' x.0 m x.3 s);
-      spins_back = λ events answers a' t m k s.
-          let x = made_behind events answers t k in
-          h.spins_back events answers a' x.0 m x.3 (spins_later right x.1 t x.0 s x.2);
-      never_wrong = λ events answers t place rule k w.
-          let x = made_behind events answers t k in
-          h.never_wrong events answers x.0 place rule x.3
-          (meets_behind right x.1 t x.0 (Wrong place rule) tt x.2 w);
-    }
+use Rattle.word_base.proofs.Walks.{one_state}
+use Rattle.word_base.proofs.Composing.{same_before}
 
 -- WHAT A TURN of a machine whose start may be missing says of the machine's own.
 silent_of : {S : Type 0} (turn : Turn S) (u : Standing S) → standing turn ≡ Silent u
@@ -186,7 +105,7 @@ module _ {S : Type 0} (step : S → Turn S) (place rule : ℕ) where
       let k = own_goes n s x.0 (subst (λ v. Goes right n v x.0) e x.1) in
       (k.0, k.2)
 
-  same_started : (s : S) → NeverWrong step s → SameLanes step right s (Some s)
+  pub same_started : (s : S) → NeverWrong step s → SameLanes step right s (Some s)
   same_started s sound = record {
     forward = record {
       events = λ events answers t m. (Some t, started_makes events answers s t m);
