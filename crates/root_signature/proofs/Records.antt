@@ -2,7 +2,7 @@
 use Rattle.std.proofs.Common.{◌≡◌, ℕ, ◌+◌, ◌*◌, ◌<◌, ◌≤◌, ◌⊎◌, inl, inr, ⊎_elim, Bool, true, false, min, List, ◌++◌, length, Option, Some, None, refl, sym, subst, arith}
 use Rattle.std.specs.Prelude.{Contains, ◌&&◌, not, nat_lt}
 use Rattle.std.proofs.lemmas.Bool.Decides.{nat_tests}
-use Rattle.std.proofs.lemmas.List.Elements.{Contains-append_right, Contains-append_cases}
+use Rattle.std.proofs.lemmas.List.Elements.{Contains-append_left, Contains-append_right, Contains-append_cases}
 use Rattle.word_base.specs.declared.rule.Rule.{Rule}
 use Rattle.word_base.specs.declared.rule.Rule.TheVariants.{G2, G3}
 use Rattle.word_base.specs.declared.rule.Refusal.{Refusal}
@@ -10,7 +10,7 @@ use Rattle.word_base.specs.Rules.{Order, key_by, is_below, order_of, comes_befor
 use Rattle.root_signature.specs.Layout.{word, words_from, is_whole}
 use Rattle.root_signature.specs.Refusals.{missing, unknown}
 use Rattle.root_signature.specs.Bests.{IsBest}
-use Rattle.root_signature.proofs.Bests.{none_in, the_one, one_in, is_best, best_one}
+use Rattle.root_signature.proofs.Bests.{itself, none_in, the_one, one_in, is_best, best_one}
 
 later_by : (o p : Order) (a b : ℕ) → o.phase ≡ 9 → p.phase ≡ 9 → (a < b) ⊎ ((a ≡ b) × (o.number ≤ p.number)) → is_below (key_by p b) (key_by o a) ≡ false
 later_by o p a b h k w = grind (arith, nat_tests)
@@ -97,6 +97,27 @@ type_first content at words last small h l =
 
       before : comes_before (refusal G2 (min (at + 4 * words_from content at) 4294967295)) (refusal G3 at) ≡ false
       before = later (refusal G3 at) (refusal G2 (min (at + 4 * words_from content at) 4294967295)) refl refl (inl (omega (arith, words_fit content at h)))
+
+abbrev lacking : List ℕ → ℕ → Refusal
+lacking content at = refusal G2 (min (at + 4 * words_from content at) 4294967295)
+
+-- a word that is missing, where no type is unknown
+pub missing_first : (content : List ℕ) (at words last : ℕ) → words_from content at < words → (0 < words_from content at → word content at ≤ last)
+    → IsBest (Contains (record_list content at words last)) (Some (lacking content at))
+missing_first content at words last few known =
+    is_best (Contains (record_list content at words last)) (Some (lacking content at)) refl
+    (λ r e. subst (Contains (record_list content at words last)) (same e) (Contains-append_left (missing content at words) (unknown content at last) (lacking content at) there))
+    (λ q m. ⊎_elim (λ (w : Lacks content at words q). subst (λ x. comes_before x (lacking content at) ≡ false) (sym w.refused) (itself (lacking content at)))
+    (λ (w : Unknown content at last q). absurd (omega (arith, known w.there, w.above)))
+    (in_record content at words last q m)) where
+      same : {r : Refusal} → Some (lacking content at) ≡ Some r → (lacking content at) ≡ r
+      same {r} e = cc
+
+      test : not (is_whole content at words) ≡ true
+      test = grind (arith, nat_tests)
+
+      there : Contains (missing content at words) (lacking content at)
+      there = is_broken_there (not (is_whole content at words)) G2 (min (at + 4 * words_from content at) 4294967295) test
 
 -- What a record breaks comes before what a record behind it breaks.
 pub behind : (content : List ℕ) (at words last next more limit : ℕ) → length content ≤ 16777216 → at + 4 * words ≤ next → 0 < words

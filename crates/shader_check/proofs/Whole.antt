@@ -1,6 +1,6 @@
 -- The rules on declarations and uses come before those on structure.
 use Rattle.std.proofs.Common.{◌≡◌, true, Option, Some, None, refl, sym, ap, ◌∙◌, arith, append_assoc}
-use Rattle.std.proofs.lemmas.Bool.Decides.{nat_tests}
+use Rattle.word_base.proofs.Truths.{equal_numbers}
 use Rattle.word_base.specs.declared.rule.Refusal.{Refusal}
 use Rattle.word_base.specs.Rules.{first}
 use Rattle.tpf_decode.specs.Profiles.{Base}
@@ -22,7 +22,7 @@ module _ (p : Shader) where
   things_first r h k = sym (both ∙ (ap (λ o. joined o (first (nesting_refusals Base p))) (sym h) ∙ by_later (first (nesting_refusals Base p)) (late_nesting p)))
     where
       six : phase_of r ≡ 6
-      six = grind (arith, nat_tests, k)
+      six = equal_numbers (phase_of r) 6 k
 
       by_later : (o : Option Refusal) → Late 7 0 o → joined (Some r) o ≡ Some r
       by_later None l = refl
