@@ -2,3 +2,4 @@ mod Rows
 mod Sharing
 mod Stored
 mod KeyWalks
+mod Words

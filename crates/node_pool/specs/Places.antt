@@ -17,6 +17,12 @@ module _ {X : Type 0} where
   abbrev pub IsStored : ℕ → List (Option X) → Type 0
   IsStored n places = length (stored n places) ≡ n
 
+  -- each value in the places is such a one
+  abbrev pub AllHold : (X → Type 0) → List (Option X) → Type 0
+  AllHold P [] = Unit {0}
+  AllHold P (None ∷ places) = AllHold P places
+  AllHold P (Some x ∷ places) = P x × AllHold P places
+
 -- two items in three places, and none of what lies behind them
 of_three_places : stored {X = ℕ} 2 (Some 5 ∷ Some 7 ∷ Some 9 ∷ []) ≡ 5 ∷ 7 ∷ []
 of_three_places = refl

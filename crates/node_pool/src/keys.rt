@@ -1,4 +1,4 @@
-ghost use Rattle.std.specs.Prelude.{◌≡◌, ◌<◌, ◌≤◌, [], ◌∷◌, ◌++◌, length, slice_get, Some, Contains, IfSome, IfNone, IfOk};
+ghost use Rattle.std.specs.Prelude.{◌≡◌, ◌^◌, ◌<◌, ◌≤◌, [], ◌∷◌, ◌++◌, length, slice_get, Some, Contains, IfSome, IfNone, IfOk};
 ghost use Rattle.node_pool.specs.Keys.{keyed, AreDistinct};
 
 use crate::key::Key;
@@ -85,6 +85,16 @@ impl Keys {
         ensures within { length self.now.list ≤ result }
     {
         self.keys.capacity()
+    }
+
+    /// That the keys are distinct and no more than there is room for, and that the capacity is a word, for the
+    /// proofs of callers. It does nothing when it runs.
+    pub fn key_laws(&self)
+        ensures distinct { AreDistinct self.now.list }
+        ensures within { length self.now.list ≤ self.now.capacity }
+        ensures short { self.now.capacity < 2 ^ 32 }
+    {
+        self.keys.room_laws();
     }
 
     /// Returns the key with the index `i`.

@@ -1,4 +1,5 @@
-ghost use Rattle.std.specs.Prelude.{◌≡◌, ◌<◌, ◌≤◌, [], ◌∷◌, ◌++◌, length, slice_get, slice_set, Some, IfOk};
+ghost use Rattle.std.specs.Prelude.{◌≡◌, ◌^◌, ◌<◌, ◌≤◌, [], ◌∷◌, ◌++◌, length, slice_get, slice_set, Some, IfOk};
+ghost use Rattle.word_base.specs.Words.{AreWords};
 ghost use Rattle.node_pool.specs.Pools.{Pooled, pooled_code, pooled, IsPool};
 ghost use Rattle.node_pool.specs.Places.{stored};
 
@@ -29,6 +30,11 @@ impl<T: Copy> Model for Pool<T> {
 
     ghost invariant = { λ p. IsPool p.count p.region.places p.capacity × (p.region.first ≡ p.start.address) × (p.right.first ≡ p.start.address) × (p.right.count ≡ p.capacity) × (p.right.from ≡ p.alloc) };
 }
+
+/// That a number is a word, for the proofs of callers. It does nothing when it runs.
+fn short_laws(number: u32)
+    ensures { number < 2 ^ 32 }
+{}
 
 impl<T: Copy> Pool<T> {
     /// Makes an empty pool with room for `capacity` items.
@@ -74,6 +80,15 @@ impl<T: Copy> Pool<T> {
         self.capacity
     }
 
+    /// That there are no more items than there is room for, and that the capacity is a word, for the proofs of
+    /// callers. It does nothing when it runs.
+    pub fn room_laws(&self)
+        ensures within { length self.now.list ≤ self.now.capacity }
+        ensures short { self.now.capacity < 2 ^ 32 }
+    {
+        short_laws(self.capacity);
+    }
+
     /// Adds an item at the end, and returns its index. There must be room for it.
     pub fn push(&mut self, value: T) -> u32
         requires { length self.old.list < self.old.capacity }
@@ -110,6 +125,20 @@ impl<T: Copy> Pool<T> {
         ensures { self.new ≡ pooled [] self.old.capacity }
     {
         self.count = 0;
+    }
+}
+
+impl Pool<u32> {
+    /// That each item is a word, and that there are no more than there is room for, for the proofs of callers.
+    /// It does nothing when it runs.
+    #[tactic(auto, using(crate::proofs::Words::words_stored))]
+    pub fn word_laws(&self)
+        ensures words { AreWords self.now.list }
+        ensures within { length self.now.list ≤ self.now.capacity }
+        ensures short { self.now.capacity < 2 ^ 32 }
+    {
+        short_laws(self.capacity);
+        self.region.word_laws();
     }
 }
 

@@ -1,8 +1,8 @@
 //! One region of memory, as a row of places of one type. Each place is empty or holds a value.
-ghost use Rattle.std.specs.Prelude.{◌≡◌, ℕ, ◌<◌, List, Option, Some, None, length, replicate, get_or, slice_set, IfOk, ⊤};
+ghost use Rattle.std.specs.Prelude.{◌≡◌, ℕ, ◌^◌, ◌<◌, List, Option, Some, None, length, replicate, get_or, slice_set, IfOk, ⊤};
 ghost use Rattle.std.specs.Vec.Ownership.{FitsInBlock};
 ghost use denote.RawPtr.{Ptr};
-ghost use Rattle.node_pool.specs.Places.{Holds};
+ghost use Rattle.node_pool.specs.Places.{AllHold, Holds};
 ghost use Rattle.node_pool.specs.Regions.{owns_places, lends_places, may_free};
 
 use std::alloc::{AllocError, Allocator};
@@ -108,4 +108,11 @@ impl<T> Region<T> {
     {
         unsafe { &*start.address.add(index) }
     }
+}
+
+impl Region<u32> {
+    /// That each place that holds a value holds a word, for the proofs of callers. It does nothing when it runs.
+    pub(crate) fn word_laws(&self)
+        ensures { AllHold (λ word. word < 2 ^ 32) self.now.places }
+    {}
 }
