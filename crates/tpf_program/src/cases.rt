@@ -151,7 +151,7 @@ fn add_case(
         kind: depth,
         number: case.o0.x,
     };
-    let _distinct = keys.len();
+    keys.key_laws();
     match keys.find(key) {
         Some(k) => {
             let before = last.get(k);

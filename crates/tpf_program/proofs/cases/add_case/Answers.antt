@@ -6,7 +6,7 @@ pub returns-in-Some-clause-last : goal.returns-in-Some-clause-last
 returns-in-Some-clause-last c =
     rw (c.set.ensures.list, c.len.ensures.len)
     (found c.args.code.now.list c.args.case c.args.keys.now.list c.args.last.now.list c.requires.last (record { kind = c.args.depth; number = c.args.case.o0.x }) c.requires.case c.requires.depth refl
-    c.in-Some.k c.len-distinct.ensures.distinct c.in-Some.ensures.found)
+    c.in-Some.k c.key_laws.ensures.distinct c.in-Some.ensures.found)
 
 pub returns-in-Some-clause-before : goal.returns-in-Some-clause-before
 returns-in-Some-clause-before c = sym c.get-before.ensures ∙ c.requires.last.known c.in-Some.k (record { kind = c.args.depth; number = c.args.case.o0.x }) c.in-Some.ensures.found
