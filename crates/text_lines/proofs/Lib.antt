@@ -1,3 +1,3 @@
 pub mod Cut
 pub mod Digits
-mod Read
+pub mod Read

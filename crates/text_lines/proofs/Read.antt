@@ -1,8 +1,9 @@
 -- What is written is read again: joined lines, and words with a space between two.
-use Rattle.std.proofs.Common.{◌≡◌, ℕ, zero, suc, ◌+◌, ◌-◌, ◌<◌, Bool, true, false, cond, eqb, nat_lt, List, [], ◌∷◌, ◌++◌, length, get_or, drop, take, filter, refl, sym, ap, ◌∙◌, arith, append_assoc, append-nil}
+use Rattle.std.proofs.Common.{◌≡◌, ℕ, zero, suc, ◌+◌, ◌-◌, ◌<◌, Bool, true, false, cond, eqb, nat_lt, List, [], ◌∷◌, ◌++◌, length, get_or, drop, take, filter, refl, sym, ap, ◌∙◌, arith, append_assoc, append-nil, length-append}
 use Rattle.std.specs.Prelude.{◌&&◌, ◌||◌, not}
 use Rattle.std.specs.List.{join_with_byte, list_all, slice_split}
 use Rattle.std.specs.Str.Lines.{lines, lines_of_parts, strip_carriage_return}
+use Rattle.std.proofs.lemmas.List.Folds.{list_all-append}
 use Rattle.std.proofs.lemmas.List.Splits.{slice_split-cons_no, slice_split-cons_yes}
 use Rattle.text_lines.specs.Lines.{ended, has_outer_space, is_line, joined, lacks}
 use Rattle.text_lines.specs.Parts.{is_word, parts}
@@ -84,3 +85,12 @@ byte_of (b ∷ w) (suc i) h = byte_of w i (both (not (eqb b 32)) (lacks 32 w) h)
 
 pub no_outer_space : (w : List ℕ) → is_word w ≡ true → has_outer_space w ≡ false
 no_outer_space w h = rw (byte_of w 0 (no_space w h), byte_of w (length w - 1) (no_space w h)) refl
+
+-- A word is longer by bytes in front of it.
+pub longer_word : (front w : List ℕ) → lacks 32 front ≡ true → is_word w ≡ true → is_word (front ++ w) ≡ true
+longer_word front w f h =
+    let some : nat_lt 0 (length (front ++ w)) ≡ true = above (length (front ++ w)) (omega (arith, length-append front w, some_bytes w h)) in
+    rw (some, list_all-append (λ b. not (eqb b 32)) front w, f, no_space w h) refl
+  where
+    above : (n : ℕ) → 0 < n → nat_lt 0 n ≡ true
+    above n h = grind arith

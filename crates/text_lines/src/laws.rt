@@ -18,12 +18,13 @@ pub fn line_laws()
 {}
 
 /// The parts of words that were joined by single spaces are those words. A word in front of a space is the first
-/// part, and a word is its only part. And the rest of a list, as code takes it.
+/// part, and a word is its only part. Bytes in front of a word that are no spaces make a longer one. And the rest of a list, as code takes it.
 pub fn part_laws()
     ensures joined { (ws : List (List ℕ)) → list_all is_word ws ≡ true → parts (join_with_byte 32 ws) ≡ ws }
     ensures first { (w rest : List ℕ) → is_word w ≡ true → parts (w ++ 32 ∷ rest) ≡ w ∷ parts rest }
     ensures only { (w : List ℕ) → is_word w ≡ true → parts w ≡ w ∷ [] }
     ensures inner { (w : List ℕ) → is_word w ≡ true → has_outer_space w ≡ false }
+    ensures longer { (front w : List ℕ) → lacks 32 front ≡ true → is_word w ≡ true → is_word (front ++ w) ≡ true }
     ensures rest { (xs : List ℕ) (n : ℕ) → take (length xs - n) (drop n xs) ≡ drop n xs }
 {}
 
