@@ -7,6 +7,7 @@ mod Whole
 pub mod Inhabited
 mod Single
 mod DefaultBound
+mod RegisterNames
 pub mod LineParts
 pub mod TextRules
 pub mod Placed

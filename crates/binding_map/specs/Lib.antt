@@ -7,6 +7,7 @@ pub mod Marks
 pub mod Numbering
 pub mod Completeness
 pub mod Fits
+pub mod Names
 pub mod Texts
 pub mod Lines
 pub mod Roots

@@ -1,8 +1,10 @@
 -- What lines say, and maps of texts.
-use Rattle.std.specs.Prelude.{◌≡◌, true, false, [], ◌∷◌, codes, refl}
+use Rattle.std.specs.Prelude.{◌≡◌, true, false, [], ◌∷◌, Some, None, codes, refl}
+use Rattle.std.specs.Fmt.{digits}
 use Rattle.binding_map.specs.declared.register.Register.TheVariants.{Constant, Resource, Uav, Counter}
 use Rattle.binding_map.specs.declared.register.Place.TheVariants.{Bound, Push}
 use Rattle.binding_map.specs.Bindings.{binding}
+use Rattle.binding_map.specs.Names.{name_of, register_named}
 use Rattle.binding_map.specs.Texts.{said, Nothing, Unread, Names, text_map, is_past}
 
 -- one or more spaces, and leading zeros
@@ -52,3 +54,14 @@ no_words = refl
 pub of_lines : text_map (codes "t0 0 1\r\n\n# a\nu0 0 0")
     ≡ binding (Resource 0) (Bound 0 1) ∷ binding (Uav 0) (Bound 0 0) ∷ []
 of_lines = refl
+
+-- Names of registers: a leading zero is read and not written, and `c` is no kind.
+pub of_a_name : register_named (codes "cb02") ≡ Some (Constant 2)
+of_a_name = refl
+
+pub of_no_kind : register_named (codes "c2") ≡ None
+of_no_kind = refl
+
+pub written : name_of (Counter 63) ≡ codes "counter63"
+unfolding digits
+written = refl

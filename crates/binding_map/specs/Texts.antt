@@ -1,39 +1,19 @@
 -- The text of a binding map: what its lines say, which of them break a rule, and the map that they give. (This project's
 -- own format.)
-use Rattle.std.specs.Prelude.{◌≡◌, ℕ, ◌+◌, ◌-◌, ◌<◌, nat_eq, nat_lt, nat_le, ◌==◌, ◌&&◌, ◌||◌, if◌then◌else◌, Bool, true, List, [], ◌∷◌, map, filter, filter_map, drop, length, Option, Some, None, slice_get, slice_index, bytes_eq, codes}
-use Rattle.std.specs.Char.{is_ascii_digit}
-use Rattle.std.specs.Option.{option_map}
-use Rattle.std.specs.List.{slice_split, starts_with, list_all}
+use Rattle.std.specs.Prelude.{◌≡◌, ℕ, ◌+◌, ◌<◌, nat_eq, nat_lt, nat_le, ◌||◌, if◌then◌else◌, Bool, true, List, [], ◌∷◌, map, filter_map, Option, Some, None, slice_get, bytes_eq, codes}
 use Rattle.std.specs.Str.Lines.{lines}
-use Rattle.std.specs.Str.Parse.{digits_value}
+use Rattle.text_lines.specs.Lines.{is_passed, has_outer_space}
+use Rattle.text_lines.specs.Numbers.{number_of}
+use Rattle.text_lines.specs.Parts.{parts}
 use Rattle.word_base.specs.declared.rule.Refusal.{Refusal}
 use Rattle.word_base.specs.declared.rule.Rule.TheVariants.{B2, B3}
 use Rattle.word_base.specs.Rules.{refusal}
 use Rattle.binding_map.specs.declared.register.Register.{Register}
-use Rattle.binding_map.specs.declared.register.Register.TheVariants.{Constant, Resource, Uav, Counter}
+use Rattle.binding_map.specs.declared.register.Register.TheVariants.{Constant}
 use Rattle.binding_map.specs.declared.register.Place.{Place}
 use Rattle.binding_map.specs.declared.register.Place.TheVariants.{Bound, Push}
 use Rattle.binding_map.specs.Bindings.{Binding, binding, is_at, has_word}
-
--- the number that 1 to 10 decimal digits write
-abbrev pub number_of : List ℕ → Option ℕ
-number_of digits =
-    if nat_lt 0 (length digits) && (nat_le (length digits) 10 && list_all is_ascii_digit digits)
-    then Some (digits_value 10 digits)
-    else None
-
-abbrev pub below : ℕ → Option ℕ → Option ℕ
-below limit None = None
-below limit (Some n) = if nat_lt n limit then Some n else None
-
--- the register of a name: that of a kind, and behind it a slot below the kind's limit
-abbrev pub register_named : List ℕ → Option Register
-register_named name =
-    if starts_with nat_eq name (codes "cb") then option_map Constant (below 14 (number_of (drop 2 name)))
-    else if starts_with nat_eq name (codes "counter") then option_map Counter (below 64 (number_of (drop 7 name)))
-    else if starts_with nat_eq name (codes "t") then option_map Resource (below 128 (number_of (drop 1 name)))
-    else if starts_with nat_eq name (codes "u") then option_map Uav (below 64 (number_of (drop 1 name)))
-    else None
+use Rattle.binding_map.specs.Names.{register_named}
 
 -- A line says nothing, or is not of the form, or names a register and its place, whatever the limits of numbers.
 pub data Said : Type 0 where
@@ -57,16 +37,10 @@ said_by (name ∷ push ∷ first ∷ count ∷ []) =
     if bytes_eq push (codes "push") then pushed (register_named name) (number_of first) (number_of count) else Unread
 said_by other = Unread
 
--- the parts of a line, which one or more spaces separate
-abbrev pub parts : List ℕ → List (List ℕ)
-parts line = filter (λ part. nat_lt 0 (length part)) (slice_split (λ b. b == 32) line)
-
 -- Empty lines and lines that begin with `#` are passed over. No space stands at the begin or at the end.
 abbrev pub said : List ℕ → Said
 said line =
-    if (length line == 0) || (slice_index line 0 == 35) then Nothing
-    else if (slice_index line 0 == 32) || (slice_index line (length line - 1) == 32) then Unread
-    else said_by (parts line)
+    if is_passed line 35 then Nothing else if has_outer_space line then Unread else said_by (parts line)
 
 -- What the lines of a text say, one after the other. A line ends with an LF, and a CR before it is dropped; the last LF may
 -- be missing.

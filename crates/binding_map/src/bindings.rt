@@ -58,6 +58,14 @@ impl Bindings {
         }
     }
 
+    /// What holds of each map, for the proofs of callers: its registers, descriptors and push constant words are distinct,
+    /// each register has a place of its kind, and slots, sets and bindings are words. Nothing comes of a call.
+    pub fn map_laws(&self)
+        ensures { IsMap self.now }
+    {
+        self.len();
+    }
+
     /// Where a register is bound, and `None` exactly where it has no entry.
     pub fn place_of(&self, register: Register) -> Option<Place>
         ensures { result ≡ place_of self.now register }
@@ -80,6 +88,7 @@ impl Bindings {
             Err(_) => Err(NoMemory),
         }
     }
+
     /// Binds one more register at set 0 and the next number, where all others are bound so.
     pub(crate) fn add_next(&mut self, register: Register) -> Result<(), NoMemory>
         requires absent { place_of self.old register ≡ None }

@@ -7,9 +7,10 @@ ghost use Rattle.binding_map.specs.Texts.{is_past, text_map, TextBreaks};
 ghost use Rattle.binding_map.specs.Lines.{binding_of, shown, is_shared, IsNamed, LineBreaks, Adds};
 
 use crate::bindings::Bindings;
-use crate::line::{Line, Named, first_line, read_line};
+use crate::line::{Line, Named, read_line};
 use crate::register::{Place, Register};
 use std::alloc::Global;
+use text_lines::first_line;
 use word_base::{Halt, Refusal, Rule};
 
 impl Named {

@@ -3,7 +3,7 @@ use Rattle.binding_map.proofs.LineParts.{is_none, is_some, three_parts, four_par
 use Rattle.binding_map.proofs.line.read_parts.Goals as goal
 
 pub returns-then-is_empty : goal.returns-then-is_empty
-returns-then-is_empty c = rw (c.bound.ensures, c.register.ensures, c.number.ensures, c.number-then-is_empty.ensures)
+returns-then-is_empty c = rw (c.bound.ensures, c.from_name.ensures, c.number.ensures, c.number-then-is_empty.ensures)
     (three_parts c.args.line.now c.next_part.result.0.now c.next_part-2.result.0.now c.next_part-3.result.0.now
     c.next_part.result.1.now c.next_part-2.result.1.now c.next_part-3.result.1.now
     (record { some = c.next_part.ensures.parts; none = c.next_part.ensures.none })
@@ -36,7 +36,7 @@ returns-then-not-is_push c =
     (sym c.is_push.ensures ∙ c.if-not-is_push.true)
 
 pub returns : goal.returns
-returns c = rw (c.pushed.ensures, c.register-2.ensures, c.number-2.ensures, c.number-3.ensures)
+returns c = rw (c.pushed.ensures, c.from_name-2.ensures, c.number-2.ensures, c.number-3.ensures)
     (four_parts c.args.line.now c.next_part.result.0.now c.next_part-2.result.0.now c.next_part-3.result.0.now c.next_part-4.result.0.now
     c.next_part.result.1.now c.next_part-2.result.1.now c.next_part-3.result.1.now c.next_part-4.result.1.now
     (record { some = c.next_part.ensures.parts; none = c.next_part.ensures.none })
