@@ -8,6 +8,7 @@ pub mod Inhabited
 mod Single
 mod DefaultBound
 mod RegisterNames
+mod PushWords
 pub mod LineParts
 pub mod TextRules
 pub mod Placed

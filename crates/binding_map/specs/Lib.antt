@@ -7,6 +7,8 @@ pub mod Marks
 pub mod Numbering
 pub mod Completeness
 pub mod Fits
+pub mod SharedSlots
+pub mod Wanted
 pub mod Names
 pub mod Texts
 pub mod Lines
@@ -15,3 +17,4 @@ pub mod Growing
 pub mod Examples
 pub mod TextExamples
 pub mod RootExamples
+pub mod WantedExamples

@@ -2,9 +2,10 @@
 //!
 //! The definitions stand in `specs/`: `Bindings` for maps, `Lookups` for what look-ups in them find,
 //! `Defaults` for the map of a program without a signature and a text, `Roots` for that under a root
-//! signature, `Texts` for the map of a text and its rules, `Names` for the names of registers in texts, `Completeness` for what has to be bound,
-//! `Places` for where a module's lane finds what is bound, and `Fits` for the settings that fit a program
-//! and its map.
+//! signature, `Texts` for the map of a text and its rules, `Names` for the names of registers in texts,
+//! `Completeness` for what has to be bound, `Places` for where a module's lane finds what is bound,
+//! `Fits` for the settings that fit a program and its map, and `Wanted` for the variables that they want
+//! of a module.
 #![tactic(auto)]
 
 mod bindings;
@@ -17,6 +18,7 @@ mod register;
 mod registers;
 mod root;
 mod text;
+mod wanted;
 
 pub use bindings::Bindings;
 pub use completeness::complete;
@@ -25,6 +27,7 @@ pub use laws::{binding_laws, name_laws};
 pub use register::{Place, Register};
 pub use root::from_root;
 pub use text::from_text;
+pub use wanted::push_words;
 
 #[cfg(test)]
 mod tests;

@@ -23,9 +23,9 @@ use Rattle.spirv_emit.specs.Growing.{is_global}
 use Rattle.spirv_emit.specs.Naming.{is_variable}
 use Rattle.spirv_setup.specs.Describing.{of_some}
 use Rattle.spirv_setup.specs.Premises.{Apart}
-use Rattle.spirv_setup.specs.SharedSlots.{has_words}
+use Rattle.binding_map.specs.SharedSlots.{has_words}
 use Rattle.spirv_setup.specs.Variables.{where_true, has_register, symbol_of, variable_at, bound_variables, push_variable, push_variables, shared_variables, thread_variables, variables}
-use Rattle.spirv_setup.specs.Wanted.{built_in_of, input_of, push_words}
+use Rattle.binding_map.specs.Wanted.{built_in_of, input_of, push_words}
 
 -- LISTS WITHOUT EQUAL SYMBOLS
 pub in_split : (xs ys : List Symbol) (s : Symbol) → In (xs ++ ys) s → In xs s ⊎ In ys s

@@ -26,7 +26,7 @@ use Rattle.spirv_emit.specs.Growing.{is_global, globals_in}
 use Rattle.spirv_emit.specs.Code.{In}
 use Rattle.spirv_setup.specs.Premises.{Apart, IsDeclared}
 use Rattle.spirv_setup.specs.Variables.{has_register, symbol_of, variables}
-use Rattle.spirv_setup.specs.Wanted.{built_in_of, input_of, push_words}
+use Rattle.binding_map.specs.Wanted.{built_in_of, input_of, push_words}
 use Rattle.spirv_setup.proofs.Distinct.{all_apart, bound_at, push_at, shared_at, thread_at}
 use Rattle.spirv_setup.proofs.Looked.{any_at, is_shared, shared_has, vectors_declared_at}
 use Rattle.spirv_setup.proofs.There.{in_left, in_right}

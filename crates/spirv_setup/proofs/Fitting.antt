@@ -35,7 +35,7 @@ use Rattle.shader_check.specs.Facts.{AreDeclared}
 use Rattle.spirv_setup.specs.Premises.{IsDeclared}
 use Rattle.spirv_setup.specs.Setup.{IsDescribed}
 use Rattle.spirv_setup.specs.Variables.{has_register, variables}
-use Rattle.spirv_setup.specs.Wanted.{push_end, push_words}
+use Rattle.binding_map.specs.Wanted.{push_end, push_words}
 use Rattle.spirv_setup.proofs.Distinct.{bound_at, push_at, shared_at, thread_at, register_of, back}
 use Rattle.spirv_setup.proofs.Looked.{buffer_vectors, vectors_at, words_at}
 use Rattle.spirv_setup.proofs.Placed.{Which, OfRegister, OfPush, OfShared, OfThread, which, is_among}

@@ -22,7 +22,7 @@ use Rattle.spirv_symbols.specs.declared.declared.Declared.{Declared}
 use Rattle.spirv_symbols.specs.Contexts.{declared_among}
 use Rattle.spirv_setup.specs.Describing.{is_of}
 use Rattle.spirv_setup.specs.Descriptions.{described, described_by, descriptions}
-use Rattle.spirv_setup.specs.Wanted.{declares, declares_coherent}
+use Rattle.binding_map.specs.Wanted.{declares, declares_coherent}
 use Rattle.spirv_setup.proofs.Found.{found_by, none_said, some_said}
 use Rattle.spirv_setup.proofs.Said.{among_found, among_none}
 

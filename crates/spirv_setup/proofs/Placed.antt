@@ -36,9 +36,9 @@ use Rattle.spirv_emit.specs.Growing.{is_global, globals_in}
 use Rattle.spirv_setup.specs.Describing.{of_some}
 use Rattle.spirv_setup.specs.Descriptions.{binding_in, descriptions, set_in}
 use Rattle.spirv_setup.specs.Premises.{IsDeclared}
-use Rattle.spirv_setup.specs.SharedSlots.{has_words}
+use Rattle.binding_map.specs.SharedSlots.{has_words}
 use Rattle.spirv_setup.specs.Variables.{where_true, has_register, symbol_of, variable_at, bound_variables, push_variable, push_variables, shared_variables, thread_variables, variables}
-use Rattle.spirv_setup.specs.Wanted.{built_in_of, input_of, push_words}
+use Rattle.binding_map.specs.Wanted.{built_in_of, input_of, push_words}
 use Rattle.spirv_setup.proofs.Distinct.{in_split, in_mapped, bound_at, push_at, shared_at, thread_at}
 use Rattle.spirv_setup.proofs.Looked.{resource_at, uav_at, counter_at, place_at}
 

@@ -24,7 +24,7 @@ use Rattle.spirv_setup.specs.Naming.{MayName, NamesAll, NamesArrays, NamesConsta
 use Rattle.spirv_setup.specs.Premises.{Apart, IsDeclared, declared_words, declared_ids}
 use Rattle.spirv_setup.specs.Setup.{IsDescribed, IsSetUp}
 use Rattle.spirv_setup.specs.Variables.{bound_variables, push_variables, shared_variables, thread_variables, variables}
-use Rattle.spirv_setup.specs.Wanted.{push_words}
+use Rattle.binding_map.specs.Wanted.{push_words}
 use Rattle.spirv_setup.proofs.Distinct.{all_apart}
 use Rattle.spirv_setup.proofs.Said.{same_among}
 use Rattle.spirv_setup.proofs.Walked.{may_front, may_back, names_on}

@@ -27,7 +27,7 @@ use Rattle.tpf_program.specs.Spelling.{Item, Declares, Types, Does, Lists, Skips
 use Rattle.tpf_program.specs.Uses as used
 use Rattle.tpf_program.specs.Uses.{Use, use_of, uses, operand_uses, added_uses, is_indexed, is_missing}
 use Rattle.shader_check.specs.Facts.{AreUsed}
-use Rattle.spirv_setup.specs.Wanted.{declares}
+use Rattle.binding_map.specs.Wanted.{declares}
 
 -- THE OPCODES that step a counter have a destination and name a view u#.
 abbrev StepsIt : ℕ → Meaning → Type 0

@@ -33,10 +33,10 @@ use Rattle.spirv_emit.specs.Growing.{is_global, globals_in}
 use Rattle.spirv_setup.specs.Describing.{of_some}
 use Rattle.spirv_setup.specs.Named.{has_room, is_input}
 use Rattle.spirv_setup.specs.Premises.{IsDeclared}
-use Rattle.spirv_setup.specs.SharedSlots.{has_words}
+use Rattle.binding_map.specs.SharedSlots.{has_words}
 use Rattle.spirv_setup.specs.Variables.{where_true, has_register, symbol_of, variable_at, bound_variables, push_variables, shared_variables, thread_variables, variables}
-use Rattle.spirv_setup.specs.Wanted as wanted
-use Rattle.spirv_setup.specs.Wanted.{input_of, push_end, push_words}
+use Rattle.binding_map.specs.Wanted as wanted
+use Rattle.binding_map.specs.Wanted.{input_of, push_end, push_words}
 use Rattle.spirv_setup.proofs.Distinct.{mapped_in, range_here}
 use Rattle.spirv_setup.proofs.Looked.{any_at, at_any, is_array, is_shared, array_declared, shared_declared, shared_below}
 

@@ -31,9 +31,9 @@ use Rattle.spirv_emit.specs.Growing.{is_global, globals_in}
 use Rattle.spirv_setup.specs.Describing.{of_some}
 use Rattle.spirv_setup.specs.Descriptions.{binding_in, descriptions, set_in}
 use Rattle.spirv_setup.specs.Premises.{IsDeclared}
-use Rattle.spirv_setup.specs.SharedSlots.{has_words, shared_slots}
+use Rattle.binding_map.specs.SharedSlots.{has_words, shared_slots}
 use Rattle.spirv_setup.specs.Variables.{where_true, has_register, variable_at, bound_variables, push_variables, shared_variables, thread_variables, variables}
-use Rattle.spirv_setup.specs.Wanted.{buffer_of, buffer_where, declares, declares_coherent, input_of, push_words, some_words, uniform_of, uniform_where, wanted_of}
+use Rattle.binding_map.specs.Wanted.{buffer_of, buffer_where, declares, declares_coherent, input_of, push_words, some_words, uniform_of, uniform_where, wanted_of}
 use Rattle.spirv_setup.proofs.Distinct.{sort_at, in_bound_sort, push_sort, shared_sort, thread_sort}
 use Rattle.spirv_setup.proofs.Looked.{resource_at, uav_at, counter_at, place_at, words_at}
 

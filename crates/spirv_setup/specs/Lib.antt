@@ -1,7 +1,4 @@
-pub mod SharedSlots
 pub mod SharedPlaces
-pub mod Wanted
-pub mod WantedExamples
 pub mod Descriptions
 pub mod Variables
 pub mod Premises

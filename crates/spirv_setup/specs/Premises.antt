@@ -9,7 +9,7 @@ use Rattle.binding_map.specs.Bindings.{Binding}
 use Rattle.spirv_symbols.specs.declared.symbol.Symbol.{Symbol}
 use Rattle.spirv_emit.specs.Code.{In}
 use Rattle.spirv_setup.specs.Variables.{variables}
-use Rattle.spirv_setup.specs.Wanted.{declares}
+use Rattle.binding_map.specs.Wanted.{declares}
 
 -- Its declarations keep their rules, it steps counters of u# alone that it declares, and its immediates are words.
 pub record IsDeclared (p : Shader) : Type 0 where

@@ -14,7 +14,7 @@ use Rattle.spirv_emit.specs.declared.emitter.Emitter.{Emitter as Emission}
 use Rattle.spirv_emit.specs.Growing.{globals_in}
 use Rattle.spirv_setup.specs.Descriptions.{descriptions, buffers_of}
 use Rattle.spirv_setup.specs.Variables.{variables}
-use Rattle.spirv_setup.specs.Wanted.{push_words}
+use Rattle.binding_map.specs.Wanted.{push_words}
 
 -- WHAT IS SAID of the program and its map.
 pub record IsDescribed (p : Shader) (bindings : List Binding) (e : Emission) : Type 0 where

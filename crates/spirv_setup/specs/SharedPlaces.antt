@@ -4,7 +4,7 @@ use Rattle.tpf_program.specs.Program.{Shader}
 use Rattle.spirv_words.specs.Globals.{Places}
 use Rattle.binding_map.specs.Bindings.{Binding}
 use Rattle.binding_map.specs.Places.{places_of}
-use Rattle.spirv_setup.specs.SharedSlots.{shared_slots}
+use Rattle.binding_map.specs.SharedSlots.{shared_slots}
 
 -- with the slots of shared memory that the program gives words alone
 abbrev pub places_in : Shader → List Binding → Places

@@ -14,8 +14,8 @@ use Rattle.binding_map.specs.Bindings.{Binding}
 use Rattle.spirv_symbols.specs.declared.symbol.Symbol.{Symbol}
 use Rattle.spirv_symbols.specs.declared.symbol.Symbol.TheVariants.{Input, Memory, Uniform, Push}
 use Rattle.spirv_setup.specs.Describing.{of_some}
-use Rattle.spirv_setup.specs.SharedSlots.{has_words}
-use Rattle.spirv_setup.specs.Wanted.{declares, input_of, push_words}
+use Rattle.binding_map.specs.SharedSlots.{has_words}
+use Rattle.binding_map.specs.Wanted.{declares, input_of, push_words}
 
 abbrev pub where_true : Bool → Symbol → Option Symbol
 where_true b s = if b then Some s else None

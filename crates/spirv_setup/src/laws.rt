@@ -24,7 +24,7 @@ ghost use Rattle.spirv_setup.specs.Named.{IsNamed, spaces_of};
 ghost use Rattle.spirv_setup.specs.Premises.{IsDeclared};
 ghost use Rattle.spirv_setup.specs.Setup.{IsSetUp};
 ghost use Rattle.spirv_setup.specs.Variables.{variables};
-ghost use Rattle.spirv_setup.specs.Wanted.{wanted_of};
+ghost use Rattle.binding_map.specs.Wanted.{wanted_of};
 
 use binding_map::binding_laws;
 use spirv_symbols::growth_laws;

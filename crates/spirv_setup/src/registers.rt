@@ -1,12 +1,11 @@
-//! Which registers a program has, and how many push constant words.
-ghost use Rattle.std.specs.Prelude.{◌≡◌, max};
+//! Which registers a program has.
+ghost use Rattle.std.specs.Prelude.{◌≡◌};
 ghost use Rattle.std.specs.List.{list_any};
 ghost use Rattle.tpf_program.specs.Extents.{is_resource, is_uav, steps_counter};
-ghost use Rattle.binding_map.specs.Bindings.{IsMap, IsPlaceFor};
 ghost use Rattle.spirv_setup.specs.Variables.{has_register};
-ghost use Rattle.spirv_setup.specs.Wanted.{declares, push_end, push_words};
+ghost use Rattle.binding_map.specs.Wanted.{declares};
 
-use binding_map::{Bindings, Place, Register};
+use binding_map::Register;
 use tpf_program::{Declaration, Instruction, Program};
 
 /// The opcodes that step a counter: `imm_atomic_alloc` and `imm_atomic_consume`.
@@ -90,43 +89,4 @@ pub(crate) fn has_register(program: &Program, register: Register) -> bool
         Register::Uav(slot) => declares_uav(program, slot),
         Register::Counter(slot) => steps_counter(program, slot),
     }
-}
-
-/// The push constant words up to the last of those of a register.
-fn push_end(program: &Program, register: Register, place: Place) -> u32
-    requires { IsPlaceFor register place }
-    ensures { result ≡ push_end program.now.shader register place }
-{
-    match (register, place) {
-        (Register::Constant(slot), Place::Push { first, count }) => {
-            if program.vectors(slot) > 0 && count > 0 {
-                first + count
-            } else {
-                0
-            }
-        }
-        _ => 0,
-    }
-}
-
-/// The greater of two words.
-fn greater(a: u32, b: u32) -> u32
-    ensures { result ≡ max a b }
-{
-    if a < b { b } else { a }
-}
-
-/// The push constant words up to the last of those of declared constant buffers.
-pub(crate) fn push_words(program: &Program, bindings: &Bindings) -> u32
-    ensures words { result ≡ push_words program.now.shader bindings.now }
-    ensures map { IsMap bindings.now }
-{
-    let mut words = 0;
-    for i in 0..bindings.len() {
-        let (register, place) = bindings.at(i);
-        let end = push_end(program, register, place);
-        let next = greater(words, end);
-        words = next;
-    }
-    words
 }

@@ -6,14 +6,13 @@ ghost use Rattle.spirv_emit.specs.Begun.{IsNew};
 ghost use Rattle.spirv_emit.specs.Emission.{words_left, ids_left};
 ghost use Rattle.spirv_setup.specs.Premises.{IsDeclared, declared_ids, declared_words};
 ghost use Rattle.spirv_setup.specs.Setup.{HasRoom, IsDescribed, IsSetUp};
-ghost use Rattle.spirv_setup.specs.Wanted.{group_of, push_words};
+ghost use Rattle.binding_map.specs.Wanted.{group_of, push_words};
 
 use crate::describing::{say_declarations, say_immediates};
-use crate::registers::push_words;
 use crate::variables::{
     name_arrays, name_bound, name_constants, name_push, name_shared, name_threads,
 };
-use binding_map::Bindings;
+use binding_map::{Bindings, push_words};
 use spirv_emit::Emitter;
 use spirv_symbols::{Kind, growth_laws};
 use tpf_program::Program;

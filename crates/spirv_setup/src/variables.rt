@@ -6,12 +6,12 @@ ghost use Rattle.spirv_symbols.specs.declared.symbol.Symbol.TheVariants.{Input, 
 ghost use Rattle.spirv_emit.specs.Growing.{is_global};
 ghost use Rattle.spirv_emit.specs.Naming.{is_variable};
 ghost use Rattle.spirv_setup.specs.Describing.{of_some};
-ghost use Rattle.spirv_setup.specs.SharedSlots.{has_words};
+ghost use Rattle.binding_map.specs.SharedSlots.{has_words};
 ghost use Rattle.spirv_emit.specs.Begun.{IsBegun};
 ghost use Rattle.spirv_emit.specs.Emission.{words_left, ids_left};
 ghost use Rattle.spirv_setup.specs.Naming.{MayName, NamesAll, NamesArrays, NamesConstants};
 ghost use Rattle.spirv_setup.specs.Variables.{bound_variables, push_variable, push_variables, shared_variables, symbol_of, thread_variables, variable_at, where_true};
-ghost use Rattle.spirv_setup.specs.Wanted.{input_of};
+ghost use Rattle.binding_map.specs.Wanted.{input_of};
 
 use crate::registers::has_register;
 use binding_map::{Bindings, Place, Register};

@@ -14,7 +14,7 @@ use Rattle.spirv_symbols.specs.Wants.{HasPlaces}
 use Rattle.spirv_emit.specs.declared.emitter.Emitter.{Emitter}
 use Rattle.spirv_emit.specs.declared.emitter.Frame.{Frame}
 use Rattle.spirv_emit.specs.Finished.{text_of}
-use Rattle.spirv_setup.specs.Wanted.{group_of, wanted_of}
+use Rattle.binding_map.specs.Wanted.{group_of, wanted_of}
 use Rattle.translator.specs.Finished as finish
 use Rattle.translator.specs.Finished.{Finished}
 use Rattle.translator.specs.Lowered.{Lowered, kind_for}

@@ -28,7 +28,7 @@ use Rattle.spirv_flow.specs.Emitting.{EmitsTree, root_of}
 use Rattle.spirv_setup.specs.Premises.{IsDeclared, declared_ids, declared_words}
 use Rattle.spirv_setup.specs.Setup.{HasRoom, IsSetUp}
 use Rattle.spirv_setup.specs.Variables.{variables}
-use Rattle.spirv_setup.specs.Wanted.{group_of}
+use Rattle.binding_map.specs.Wanted.{group_of}
 use Rattle.translator.specs.Lowered.{CanBeLowered, HasRoomFor}
 use Rattle.translator.proofs.clauses.SumClauses.{SumClauses}
 use Rattle.translator.proofs.Budget.{declared_within, named_within}

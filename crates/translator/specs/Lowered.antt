@@ -22,7 +22,7 @@ use Rattle.spirv_emit.specs.Finished.{text_of}
 use Rattle.spirv_flow.specs.Emitting.{EmitsTree}
 use Rattle.spirv_setup.specs.Premises.{IsDeclared}
 use Rattle.spirv_setup.specs.Setup.{IsSetUp}
-use Rattle.spirv_setup.specs.Wanted.{group_of}
+use Rattle.binding_map.specs.Wanted.{group_of}
 
 -- A PROGRAM THAT IS LOWERED under a binding map: it breaks no rule, and its constant buffers are bound.
 pub record CanBeLowered (p : Shader) (bindings : List Binding) : Type 0 where

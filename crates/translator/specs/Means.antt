@@ -18,7 +18,7 @@ use Rattle.shader_tree.specs.Terms.{term_at}
 use Rattle.shader_tree.specs.Trees.{Grown}
 use Rattle.raise_operands.specs.Vectors.{spaces_of}
 use Rattle.dispatch_machine.specs.SameRuns.{FollowsIn, SameRuns}
-use Rattle.spirv_setup.specs.Wanted.{group_of, wanted_of}
+use Rattle.binding_map.specs.Wanted.{group_of, wanted_of}
 use Rattle.translator.specs.Shape.{HasShape}
 
 -- The words are a module of that version, which has the form of one, the shape of the program that the chunk `SHEX` of

@@ -24,7 +24,7 @@ use Rattle.spirv_setup.specs.Named.{IsNamed, spaces_of}
 use Rattle.spirv_setup.specs.Premises.{IsDeclared}
 use Rattle.spirv_setup.specs.Setup.{IsSetUp}
 use Rattle.spirv_setup.specs.Variables.{variables}
-use Rattle.spirv_setup.specs.Wanted.{wanted_of}
+use Rattle.binding_map.specs.Wanted.{wanted_of}
 
 pub record SetupClauses : Type 0 where
   pub fits : (p : Shader) (bindings : List Binding) (e : Emission) (es : List Entry) (m : Machine) (separate : Bool)

@@ -2,7 +2,7 @@ use Rattle.std.proofs.Common.{sym, ap, ◌∙◌, subst, arith}
 use Rattle.spirv_emit.specs.declared.emitter.Emitter.{Emitter as Emission}
 use Rattle.spirv_setup.specs.Naming.{MayName, NamesAll}
 use Rattle.spirv_setup.specs.Variables.{push_variables}
-use Rattle.spirv_setup.specs.Wanted.{push_words}
+use Rattle.binding_map.specs.Wanted.{push_words}
 use Rattle.spirv_setup.proofs.Ready.{may_begin, may_bound, may_push, may_shared, may_threads, named_all, described_on, set_up, same_on, immediates_on}
 use Rattle.spirv_setup.proofs.setup.begin.Goals as goal
 

@@ -1,7 +1,7 @@
 use Rattle.std.proofs.Common.{◌*◌, arith}
 use Rattle.tpf_program.specs.Sizes.{temps_of}
 use Rattle.spirv_setup.specs.Descriptions.{descriptions, buffers_of}
-use Rattle.spirv_setup.specs.Wanted.{push_words}
+use Rattle.binding_map.specs.Wanted.{push_words}
 use Rattle.spirv_setup.proofs.Ready.{temps_few, all_described, said_sizes, declared_kept, immediates_kept, buffers_kept}
 use Rattle.spirv_setup.proofs.setup.describe.Goals as goal
 

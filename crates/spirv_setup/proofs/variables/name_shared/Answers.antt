@@ -4,7 +4,7 @@ use Rattle.word_base.specs.declared.event.Room.TheVariants.{Shared}
 use Rattle.spirv_symbols.specs.declared.symbol.Symbol.TheVariants.{Memory}
 use Rattle.spirv_setup.specs.Describing.{of_some}
 use Rattle.spirv_setup.specs.Naming.{MayName, NamesAll}
-use Rattle.spirv_setup.specs.SharedSlots.{has_words}
+use Rattle.binding_map.specs.SharedSlots.{has_words}
 use Rattle.spirv_setup.specs.Variables.{where_true}
 use Rattle.spirv_setup.proofs.Distinct.{shared_one, range_here}
 use Rattle.spirv_setup.proofs.Walked.{may_at, named_at}

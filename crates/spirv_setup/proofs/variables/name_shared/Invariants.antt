@@ -3,7 +3,7 @@ use Rattle.std.specs.List.{filter_map, range_with_len}
 use Rattle.word_base.specs.declared.event.Room.TheVariants.{Shared}
 use Rattle.spirv_symbols.specs.declared.symbol.Symbol.TheVariants.{Memory}
 use Rattle.spirv_setup.specs.Naming.{NamesAll}
-use Rattle.spirv_setup.specs.SharedSlots.{has_words}
+use Rattle.binding_map.specs.SharedSlots.{has_words}
 use Rattle.spirv_setup.specs.Variables.{where_true}
 use Rattle.spirv_setup.proofs.variables.name_shared.Given as goal
 

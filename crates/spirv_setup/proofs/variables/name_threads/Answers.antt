@@ -4,7 +4,7 @@ use Rattle.tpf_program.specs.declared.declaration.Declared.{Declared}
 use Rattle.spirv_symbols.specs.declared.symbol.Symbol.TheVariants.{Input}
 use Rattle.spirv_setup.specs.Describing.{of_some}
 use Rattle.spirv_setup.specs.Naming.{MayName, NamesAll}
-use Rattle.spirv_setup.specs.Wanted.{input_of}
+use Rattle.binding_map.specs.Wanted.{input_of}
 use Rattle.spirv_setup.proofs.Distinct.{thread_one}
 use Rattle.spirv_setup.proofs.Walked.{may_at, named_at}
 use Rattle.spirv_setup.proofs.variables.name_threads.Goals as goal

@@ -3,7 +3,7 @@ use Rattle.std.specs.Prelude.{option_map}
 use Rattle.std.specs.List.{filter_map}
 use Rattle.spirv_symbols.specs.declared.symbol.Symbol.TheVariants.{Input}
 use Rattle.spirv_setup.specs.Naming.{NamesAll}
-use Rattle.spirv_setup.specs.Wanted.{input_of}
+use Rattle.binding_map.specs.Wanted.{input_of}
 use Rattle.spirv_setup.proofs.variables.name_threads.Given as goal
 
 abbrev pub invariant-loop-i : goal.invariant-loop-i

@@ -14,7 +14,7 @@ use Rattle.binding_map.specs.declared.register.Register.{Register}
 use Rattle.binding_map.specs.declared.register.Register.TheVariants.{Constant, Resource, Uav, Counter}
 use Rattle.binding_map.specs.declared.register.Place.TheVariants.{Bound, Push}
 use Rattle.binding_map.specs.Bindings.{Binding}
-use Rattle.spirv_setup.specs.Wanted.{push_words, wanted_of}
+use Rattle.binding_map.specs.Wanted.{push_words, wanted_of}
 
 abbrev pub bound : Register → ℕ → Binding
 bound register binding = record { register = register; place = Bound 0 binding }

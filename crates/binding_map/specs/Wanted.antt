@@ -17,7 +17,7 @@ use Rattle.binding_map.specs.declared.register.Register.TheVariants.{Constant, R
 use Rattle.binding_map.specs.declared.register.Place.{Place}
 use Rattle.binding_map.specs.declared.register.Place.TheVariants.{Bound, Push}
 use Rattle.binding_map.specs.Bindings.{Binding}
-use Rattle.spirv_setup.specs.SharedSlots.{shared_slots}
+use Rattle.binding_map.specs.SharedSlots.{shared_slots}
 
 -- a u# that is declared as globally coherent
 abbrev pub declares_coherent : ℕ → Declaration → Bool

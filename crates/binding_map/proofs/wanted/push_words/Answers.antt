@@ -1,9 +1,9 @@
 use Rattle.std.proofs.Common.{sym, ap, ◌∙◌, take}
 use Rattle.std.specs.Prelude.{max}
 use Rattle.binding_map.specs.Bindings.{binding}
-use Rattle.spirv_setup.specs.Wanted.{push_words}
-use Rattle.spirv_setup.proofs.Tests.{words_next}
-use Rattle.spirv_setup.proofs.registers.push_words.Goals as goal
+use Rattle.binding_map.specs.Wanted.{push_words}
+use Rattle.binding_map.proofs.PushWords.{words_next}
+use Rattle.binding_map.proofs.wanted.push_words.Goals as goal
 
 pub loop-i-preserved : goal.loop-i-preserved
 loop-i-preserved c =
