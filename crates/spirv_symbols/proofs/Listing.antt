@@ -1,7 +1,7 @@
 -- The ids that the entry point lists, entry by entry.
-use Rattle.std.proofs.Common.{◌≡◌, ℕ, suc, ◌+◌, ◌<◌, ◌≤◌, Bool, true, false, List, [], ◌∷◌, ◌++◌, map, take, Some, refl, sym, ap, ◌∙◌, arith}
+use Rattle.std.proofs.Common.{◌≡◌, ℕ, ◌+◌, ◌<◌, Bool, true, false, List, [], ◌∷◌, ◌++◌, map, take, Some, sym, ap, ◌∙◌, arith}
 use Rattle.std.specs.Prelude.{length, slice_get, filter}
-use Rattle.std.proofs.lemmas.List.{length-append, length-map, append_assoc, map-append}
+use Rattle.std.proofs.lemmas.List.{length-map, append_assoc, map-append}
 use Rattle.spirv_words.specs.Sections.{listed_classes}
 use Rattle.spirv_symbols.specs.Tables.{Entry}
 use Rattle.spirv_symbols.specs.Modules.{is_global, interface}

@@ -1,4 +1,4 @@
-ghost use Rattle.std.specs.Prelude.{◌≡◌, ◌<◌, ◌++◌, ◌∷◌, [], length, slice_get, Some, IfOk};
+ghost use Rattle.std.specs.Prelude.{◌≡◌, ◌^◌, ◌<◌, ◌≤◌, ◌++◌, ◌∷◌, [], length, slice_get, Some, IfOk};
 ghost use Rattle.spirv_symbols.specs.Contexts.{empty_context, declared_of, Declares};
 
 use crate::declared::Declared;
@@ -105,7 +105,7 @@ impl Context {
     pub fn declared_of(&self, variable: Symbol) -> Declared
         ensures { result ≡ declared_of self.now variable }
     {
-        let _distinct = self.keys.len();
+        self.keys.key_laws();
         match self.keys.find(key(variable)) {
             Some(i) => self.declared.get(i),
             None => Declared {
@@ -130,6 +130,15 @@ impl Context {
         ensures { result ≡ self.now.pushed }
     {
         self.pushed
+    }
+
+    /// That there are no more words of the immediate constant buffer than there is room for, for the proofs of
+    /// callers. It does nothing when it runs.
+    pub(crate) fn room_laws(&self)
+        ensures within { length self.now.immediates ≤ self.now.room }
+        ensures short { self.now.room < 2 ^ 32 }
+    {
+        self.immediates.room_laws();
     }
 
     /// Returns the number of words of the immediate constant buffer.

@@ -448,7 +448,7 @@ pub(crate) fn part_at(context: &Context, row: &Row, k: usize) -> Part
     if k < count {
         row.parts[k]
     } else {
-        let _within = context.immediates();
+        context.room_laws();
         let word = context.immediate((k - count) as u32);
         Part::Of(Symbol::Constant(word))
     }

@@ -101,7 +101,7 @@ impl Symbols {
         ensures first { IfSome result (λ id. id ≡ id_of self.now.entries symbol) }
         ensures absent { IfNone result (Absent self.now.entries symbol) }
     {
-        let _distinct = self.keys.len();
+        self.keys.key_laws();
         match self.keys.find(key(symbol)) {
             Some(i) => Some(self.ids.get(i)),
             None => None,
@@ -123,7 +123,7 @@ impl Symbols {
         requires room { self.old.next < self.old.limit }
         ensures { Takes self.old self.new result }
     {
-        let _within = self.ids.capacity();
+        self.ids.room_laws();
         let id = self.next;
         self.next = id + 1;
         id
@@ -136,7 +136,7 @@ impl Symbols {
         requires room { self.old.next < self.old.limit }
         ensures { Adds self.old self.new symbol result }
     {
-        let _within = self.ids.capacity();
+        self.ids.room_laws();
         let id = self.next;
         self.keys.add(key(symbol));
         self.ids.push(id);

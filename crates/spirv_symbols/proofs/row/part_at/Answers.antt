@@ -8,7 +8,7 @@ pub overflow_cast-k : goal.overflow_cast-k
 overflow_cast-k c =
     let h = word_within c.args.row.now.parts c.args.row.now.gathers c.args.context.now.immediates c.args.row.now.count c.args.k c.requires.few
     c.if-k-count.false c.requires.within in
-    omega (arith, h, c.immediates-within.ensures, c.immediates-within.type_inv)
+    omega (arith, h, c.room_laws.ensures.within, c.room_laws.ensures.short)
 
 pub returns-then-k-count : goal.returns-then-k-count
 returns-then-k-count c =

@@ -7,7 +7,7 @@ use Rattle.spirv_symbols.proofs.context.Context.declared_of.Goals as goal
 
 pub returns-in-Some : goal.returns-in-Some
 returns-in-Some c =
-    declared_here c.self.inside.keys.list c.self.inside.declared.list c.args.variable c.in-Some.i c.get.result c.len-distinct.ensures.distinct
+    declared_here c.self.inside.keys.list c.self.inside.declared.list c.args.variable c.in-Some.i c.get.result c.key_laws.ensures.distinct
     c.self.invariant.keys (c.in-Some.ensures.found ∙ ap (λ (k : Key). Some k) c.key.ensures) c.get.ensures
     ∙ ap (λ (t : Context). declared_of t c.args.variable) c.self.view_is
 

@@ -13,7 +13,7 @@ returns-in-Some-clause-found c =
 
 pub returns-in-Some-clause-first : goal.returns-in-Some-clause-first
 returns-in-Some-clause-first c =
-    first_id c.self.inside.keys.list c.self.inside.ids.list c.args.symbol c.in-Some.i c.get.result c.len-distinct.ensures.distinct
+    first_id c.self.inside.keys.list c.self.inside.ids.list c.args.symbol c.in-Some.i c.get.result c.key_laws.ensures.distinct
     c.self.invariant.named (c.in-Some.ensures.found ∙ ap (λ (k : Key). Some k) c.key.ensures) c.get.ensures
     ∙ ap (λ (t : Table). id_of t.entries c.args.symbol) c.self.view_is
 
