@@ -35,3 +35,4 @@ mod Loads
 mod Sources
 mod LaneWrites
 mod Values
+mod TextWords

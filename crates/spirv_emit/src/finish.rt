@@ -1,5 +1,6 @@
 //! The words of a finished module.
-ghost use Rattle.std.specs.Prelude.{◌≡◌, ◌+◌, ◌<◌, ◌≤◌, ◌++◌, List, length, slice_get, Some};
+ghost use Rattle.std.specs.Prelude.{◌≡◌, ℕ, ◌+◌, ◌<◌, ◌≤◌, ◌++◌, List, length, slice_get, Some};
+ghost use Rattle.word_base.specs.Words.{AreWords};
 ghost use Rattle.spirv_words.specs.Text.{Instr, header_of, words_of_code};
 ghost use Rattle.spirv_symbols.specs.declared.symbol.Symbol.TheVariants.{Main, FirstLabel};
 ghost use Rattle.spirv_symbols.specs.Contexts.{IsSmall};
@@ -65,6 +66,16 @@ impl Emitter {
         ensures { result ≡ length self.now.code.list }
     {
         self.code.len()
+    }
+
+    /// That the words of a finished module are words, and no more than there is room for, for the proofs of callers.
+    /// It does nothing when it runs.
+    #[tactic(auto, using(crate::proofs::TextWords::text_words))]
+    pub fn word_laws(&self)
+        ensures words { (body : ℕ) → AreWords (text_of body self.now.code.list) }
+        ensures within { length self.now.code.list ≤ self.now.code.capacity }
+    {
+        self.code.word_laws();
     }
 
     /// The word of the finished module with that number, counted from 0, where the function's code has so many

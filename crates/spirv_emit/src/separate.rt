@@ -1,5 +1,6 @@
 //! Whether each word of the registers `r#` is a variable of its own.
-ghost use Rattle.std.specs.Prelude.{◌≡◌, ◌+◌, ◌≤◌, ◌<◌, length, slice_get, Some};
+ghost use Rattle.std.specs.Prelude.{◌≡◌, ◌+◌, ◌≤◌, ◌<◌, length, slice_get, IsTrue, Some};
+ghost use Rattle.shader_tree.specs.Nodes.{are_nodes};
 ghost use Rattle.shader_tree.specs.declared.node.Node.{Node as TheNode};
 ghost use Rattle.spirv_emit.specs.Begun.{IsBegun};
 ghost use Rattle.spirv_emit.specs.Emission.{words_left, ids_left};
@@ -48,7 +49,8 @@ fn searches(tree: &Tree, id: u32) -> bool
 
 /// Whether no node of a tree reads or writes a word of the registers `r#` at an index that is no literal.
 fn none_searches(tree: &Tree) -> bool
-    ensures { result ≡ none_searches tree.now.nodes tree.now.nodes }
+    ensures none { result ≡ none_searches tree.now.nodes tree.now.nodes }
+    ensures earlier { IsTrue (are_nodes tree.now.nodes) }
 {
     let nodes = tree.nodes();
     for id in 0..nodes.len() {
@@ -75,7 +77,6 @@ impl Emitter {
     {
         growth_laws();
         node_laws();
-        tree.nodes();
         self.frame.separate = none_searches(tree);
         if !self.frame.separate {
             self.name(Symbol::Registers);

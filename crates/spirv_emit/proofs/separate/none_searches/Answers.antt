@@ -5,8 +5,8 @@ use Rattle.shader_tree.specs.declared.node.Node.TheVariants as node
 use Rattle.shader_tree.specs.declared.node.Stmt.TheVariants as stmt
 use Rattle.spirv_emit.proofs.separate.none_searches.Goals as goal
 
-pub returns-then-searches : goal.returns-then-searches
-returns-then-searches c =
+pub returns-then-searches-clause-none : goal.returns-then-searches-clause-none
+returns-then-searches-clause-none c =
     let i = index_at c.args.tree.now.nodes c.loop-id.id (node.Stmt stmt.Nothing)
     (omega (arith, c.loop-id-test.true, c.len-id-end.ensures.len, ap length c.nodes-nodes.ensures.nodes)) in
     sym (one_searches c.args.tree.now.nodes c.args.tree.now.nodes c.loop-id.id _ i (sym (c.if-searches.ensures _ i)))

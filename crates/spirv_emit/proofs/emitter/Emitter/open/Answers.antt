@@ -19,8 +19,8 @@ returns-then-not-self-clause-ids c =
 
 pub returns-else-not-self-clause-opened : goal.returns-else-not-self-clause-opened
 returns-else-not-self-clause-opened c =
-    all_separate c.args.tree.now.nodes (λ id n. c.node_laws.ensures.stands c.args.tree.now.nodes id n c.nodes.ensures.earlier) c.args.self.now
-    c.none_searches-self.result c.none_searches-self.ensures c.if-not-self.false (c.growth_laws.ensures.itself c.args.self.now.symbols)
+    all_separate c.args.tree.now.nodes (λ id n. c.node_laws.ensures.stands c.args.tree.now.nodes id n c.none_searches-self.ensures.earlier) c.args.self.now
+    c.none_searches-self.result c.none_searches-self.ensures.none c.if-not-self.false (c.growth_laws.ensures.itself c.args.self.now.symbols)
 
 pub returns-else-not-self-clause-words : goal.returns-else-not-self-clause-words
 returns-else-not-self-clause-words c =
