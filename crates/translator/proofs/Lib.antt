@@ -1,6 +1,5 @@
 pub mod clauses
 mod ShapeRefuted
-mod AccLong
 mod AccPhases
 mod AccRooms
 mod Answered

@@ -1,9 +1,6 @@
 //! The tree of a program, and the module of the tree.
 ghost use Rattle.std.specs.Prelude.{◌≤◌, length};
-ghost use Rattle.word_base.specs.Words.{AreWords};
-ghost use Rattle.binding_map.specs.Bindings.{IsMap};
 ghost use Rattle.spirv_words.specs.Versions.{number_of_version};
-ghost use Rattle.spirv_emit.specs.Finished.{text_of};
 ghost use Rattle.translator.specs.Lowered.{CanBeLowered, HasRoomFor, KeepsRoom, Lowered};
 
 use binding_map::Bindings;
@@ -12,26 +9,9 @@ use shader_tree::Tree;
 use spirv_emit::Emitter;
 use spirv_flow::emit_tree;
 use spirv_setup::{begin, declared_laws, placed_laws, setup_laws, sum_laws};
-use spirv_symbols::{Ascending, length_laws};
+use spirv_symbols::Ascending;
 use spirv_words::Version;
 use tpf_program::Program;
-
-/// That the words of a module are words, for the proof of a caller: each is read, and nothing comes of it.
-fn word_laws(emitter: &Emitter, body: u32)
-    requires within { body ≤ length emitter.now.code.list }
-    ensures { AreWords (text_of body emitter.now.code.list) }
-{
-    for i in 0..emitter.len() {
-        emitter.word(body, i);
-    }
-}
-
-/// That no two entries of a binding map meet, for the proof of a caller.
-fn map_laws(bindings: &Bindings)
-    ensures { IsMap bindings.now }
-{
-    bindings.len();
-}
 
 /// Writes the tree of a program, and its module, in place of what was there. The program breaks no rule, and there is
 /// room for it.
@@ -53,8 +33,7 @@ pub(crate) fn lower(
     ensures short { length emitter.new.code.list ≤ emitter.new.code.capacity }
 {
     declared_laws();
-    length_laws();
-    map_laws(bindings);
+    bindings.map_laws();
     placed_laws();
     raised_tree_laws();
     setup_laws();
@@ -65,6 +44,6 @@ pub(crate) fn lower(
     let kind = begin(emitter, program, bindings, version.number());
     emit_tree(emitter, tree);
     let body = emitter.finish(kind, constants);
-    word_laws(emitter, body);
+    emitter.word_laws();
     body
 }

@@ -1,4 +1,4 @@
-use Rattle.std.proofs.Common.{◌≡◌, [], ap, ◌∙◌}
+use Rattle.std.proofs.Common.{ap, ◌∙◌}
 use Rattle.shader_tree.specs.Trees.{Grown}
 use Rattle.spirv_symbols.specs.ModuleWords.{kind_of}
 use Rattle.translator.proofs.clauses.TreeClauses.{TreeClauses}
@@ -6,7 +6,6 @@ use Rattle.translator.proofs.LowSteps.{Begins, Ends, IsCleared, Writes, begins_b
 use Rattle.translator.proofs.LowSteps.{has_room, ids_enough, known, sums_by, words_enough}
 use Rattle.translator.proofs.Fitting.{has_root, is_small, lists_below, ready, rest_words, tree_fits, tree_ids}
 use Rattle.translator.proofs.Fitting.{tree_placed, tree_words}
-use Rattle.translator.proofs.AccLong.{long}
 use Rattle.translator.proofs.LowLowered.{keeps_room, limit_within, lowered}
 use Rattle.translator.proofs.lowering.lower.Goals as goal
 
@@ -218,7 +217,7 @@ returns-clause-lowered c =
     let f = c.finish-body.ensures in
     let ends : Ends (kind_of c.begin-kind.result) c.emit_tree.new.emitter c.finish-body.new.self c.args.constants.now
     c.finish-body.new.constants c.finish-body.result =
-    ends_by f.symbols f.frame f.kept f.capacity f.sorted f.spare f.within f.text c.word_laws.ensures in
+    ends_by f.symbols f.frame f.kept f.capacity f.sorted f.spare f.within f.text (c.word_laws.ensures.words c.finish-body.result) in
     let v = c.number.ensures in
     lowered v.number v.version cleared begins done writes ends c.setup_laws.ensures.small c.setup_laws.ensures.interface
 
@@ -237,30 +236,6 @@ returns-clause-room c =
     let f = c.finish-body.ensures in
     let ends : Ends (kind_of c.begin-kind.result) c.emit_tree.new.emitter c.finish-body.new.self c.args.constants.now
     c.finish-body.new.constants c.finish-body.result =
-    ends_by f.symbols f.frame f.kept f.capacity f.sorted f.spare f.within f.text c.word_laws.ensures in
+    ends_by f.symbols f.frame f.kept f.capacity f.sorted f.spare f.within f.text (c.word_laws.ensures.words c.finish-body.result) in
     let nodes = c.raise.ensures.capacity ∙ ap (λ (t : Grown). t.capacity) c.clear.ensures in
     keeps_room nodes cleared begins writes ends
-
-pub returns-clause-short : goal.returns-clause-short
-returns-clause-short c =
-    let s = c.sum_laws.ensures in
-    let sums = sums_by s.listed s.constants s.words s.ids in
-    let program = known c.requires.program c.map_laws.ensures c.declared_laws.ensures c.setup_laws.ensures.few sums in
-    let n = c.clear-2.ensures in
-    let cleared : IsCleared c.args.emitter.now c.clear-2.new.self =
-    cleared_by n.new n.unsaid n.ids n.words n.declared n.immediates n.buffers n.kept in
-    let b = c.begin-kind.ensures in
-    let begins : Begins c.args.program.now.shader c.args.bindings.now c.number.result (kind_of c.begin-kind.result)
-    c.clear-2.new.self c.begin-kind.new.emitter =
-    begins_by b.set_up b.code b.kept b.limit b.kind b.words b.ids b.declared b.immediates b.buffers in
-    let trees : TreeClauses = record { holds = c.raised_tree_laws.ensures } in
-    let done = ready program c.requires.room cleared begins c.raise.ensures.raised trees in
-    let w = c.emit_tree.ensures in
-    let writes : Writes c.begin-kind.new.emitter c.emit_tree.new.emitter c.raise.new.tree =
-    writes_by w.emits w.begun w.words in
-    let room = rest_words done writes c.begin-kind.result.version in
-    let f = c.finish-body.ensures in
-    let none : c.begin-kind.new.emitter.code.list ≡ [] = ap (λ p. p.list) b.code ∙ n.new.code in
-    long c.length_laws.ensures.words c.begin-kind.new.emitter c.emit_tree.new.emitter c.finish-body.new.self
-    c.raise.new.tree (kind_of c.begin-kind.result) c.finish-body.new.constants.list c.finish-body.result none w.emits
-    w.begun f.sorted f.text room f.capacity
