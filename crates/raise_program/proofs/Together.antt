@@ -276,7 +276,7 @@ module _ (p : Shader) (nested : IsNested p) (g : Spaces) (setting : Setting) (pa
       subst (λ done. Same (at_count (record { place = place_of to.spot; registers = to.registers; answers = done }) (turned back n)) u) (sym k.1) next in
       (c.0, u, c.2, subst (λ m. Same (at_count (at_place to) m) u) (sym count) there, falls x to n c.0 t u back f.1 w e refl c.2)
   on_turn x n t (Asks event after) w h e f k c = absurd c
-  on_turn x n t Ends w h e f k c = (c.0, c.1, c.2, c.3, sym c.4 ∙ e)
+  on_turn x n t Ends w h e f k c = (c.0, c.1, c.2, c.3, sym c.4)
   on_turn x n t (Wrong place rule) w h e f k c = absurd c
 
   -- the instruction whose scalar is read is one of the program
