@@ -1,5 +1,5 @@
 -- A text is cut at its first LF, and a line at its first space.
-use Rattle.std.proofs.Common.{◌≡◌, ℕ, zero, suc, ◌+◌, ◌-◌, ◌<◌, ⊎_elim, Bool, true, false, cond, eqb, nat_lt, List, [], ◌∷◌, length, get_or, take, drop, filter, refl, sym, ap, ◌∙◌, subst, arith, length-drop}
+use Rattle.std.proofs.Common.{◌≡◌, ℕ, zero, suc, ◌+◌, ◌-◌, ◌<◌, ◌≤◌, ⊎_elim, Bool, true, false, cond, eqb, nat_lt, List, [], ◌∷◌, length, get_or, take, drop, filter, refl, sym, ap, ◌∙◌, subst, arith, length-drop}
 use Rattle.std.specs.Prelude.{◌≢◌, not}
 use Rattle.std.specs.List.{All, position_or_len, slice_split, before_first, after_first}
 use Rattle.std.specs.Str.Lines.{lines, lines_of_parts, strip_carriage_return}
@@ -7,8 +7,8 @@ use Rattle.std.proofs.lemmas.Bool.Decides.{eqb_tells}
 use Rattle.std.proofs.lemmas.List.{drop_more, take_all}
 use Rattle.std.proofs.lemmas.List.Elements.{All-from_get_or}
 use Rattle.std.proofs.lemmas.List.Splits.{slice_split_none, slice_split_first, slice_split-cons_yes, length-slice_split}
-use Rattle.std.proofs.lemmas.List.Sums.{fails_before_first}
-use Rattle.text_lines.specs.Parts.{parts}
+use Rattle.std.proofs.lemmas.List.Sums.{fails_before_first, position_or_len_is}
+use Rattle.text_lines.specs.Parts.{parts, unspaced}
 
 abbrev pub is_byte : ℕ → ℕ → Bool
 is_byte c = λ b. eqb b c
@@ -92,3 +92,15 @@ pub behind_space : (line : List ℕ) (i : ℕ) → i < length line → get_or li
 behind_space line i h space =
     let split = slice_split-cons_yes (is_byte 32) (get_or line i 0) (drop (i + 1) line) (ap (λ b. eqb b 32) space) in
     sym (ap parts (drop_more line i 0 h) ∙ ap (filter has_bytes) split)
+
+pub behind_the_spaces : (line : List ℕ) (i : ℕ) → i ≤ length line → ((k : ℕ) → k < i → get_or line k 0 ≡ 32) → (i < length line → get_or line i 0 ≢ 32)
+    → take (length line - i) (drop i line) ≡ unspaced line
+behind_the_spaces line i h spaces other =
+    let place = position_or_len_is (λ b. not (eqb b 32)) line i 0 h (λ k lt. passed (get_or line k 0) (spaces k lt)) (λ lt. stays (get_or line i 0) (other lt)) in
+    rest_of line i ∙ ap (λ n. drop n line) (sym place)
+  where
+    passed : (b : ℕ) → b ≡ 32 → not (eqb b 32) ≡ false
+    passed b e = grind arith
+
+    stays : (b : ℕ) → b ≢ 32 → not (eqb b 32) ≡ true
+    stays b n = ⊎_elim (λ e. absurd (n e.1)) (λ e. ap not e.0) (eqb_tells b 32)

@@ -4,7 +4,7 @@ use Rattle.std.specs.Fmt.{decimal, digits}
 use Rattle.std.specs.Str.Lines.{lines}
 use Rattle.text_lines.specs.Lines.{is_line, joined, is_passed, has_outer_space}
 use Rattle.text_lines.specs.Numbers.{number_of}
-use Rattle.text_lines.specs.Parts.{parts, is_word}
+use Rattle.text_lines.specs.Parts.{parts, is_word, unspaced}
 
 -- A CR stands before the LF of the first line, another one in the middle of the third, and the last line has no LF.
 pub of_a_text : lines (codes "u0 1 4\r\n\n# a\rb\nt0") ≡ codes "u0 1 4" ∷ [] ∷ codes "# a\rb" ∷ codes "t0" ∷ []
@@ -54,6 +54,9 @@ empty_line = refl
 
 pub spaced : parts (codes "counter07   1 0004") ≡ codes "counter07" ∷ codes "1" ∷ codes "0004" ∷ []
 spaced = refl
+
+pub behind : unspaced (codes "  a b ") ≡ codes "a b "
+behind = refl
 
 pub spaces_alone : parts (codes "  ") ≡ []
 spaces_alone = refl

@@ -1,11 +1,13 @@
 //! The parts of a line.
-ghost use Rattle.std.specs.Prelude.{◌≡◌, ◌≢◌, ◌<◌, ◌∷◌, [], length, slice_index};
-ghost use Rattle.text_lines.specs.Parts.{parts};
+ghost use Rattle.std.specs.Prelude.{◌≡◌, ◌≢◌, ◌<◌, ◌+◌, ◌==◌, ◌∷◌, [], length, take, drop, slice_index};
+ghost use Rattle.std.specs.List.{position_or_len};
+ghost use Rattle.text_lines.specs.Parts.{parts, unspaced};
 
 use crate::lines::end_of;
 
 /// The line from its first byte on that is no space. It has the same parts.
 pub fn behind_spaces(line: &[u8]) -> &[u8]
+    ensures line { result.now ≡ unspaced line.now }
     ensures parts { parts result.now ≡ parts line.now }
     ensures begins { slice_index result.now 0 ≢ 32 }
 {
@@ -21,6 +23,8 @@ pub fn behind_spaces(line: &[u8]) -> &[u8]
 /// Both are empty where the line is.
 pub fn next_part(line: &[u8]) -> (&[u8], &[u8])
     requires begins { slice_index line.now 0 ≢ 32 }
+    ensures first { result.0.now ≡ take (position_or_len (λ b. b == 32) line.now) line.now }
+    ensures rest { result.1.now ≡ unspaced (drop (position_or_len (λ b. b == 32) line.now + 1) line.now) }
     ensures begins { slice_index result.1.now 0 ≢ 32 }
     ensures parts { 0 < length line.now → parts line.now ≡ result.0.now ∷ parts result.1.now }
     ensures none { line.now ≡ [] → (result.0.now ≡ []) × (result.1.now ≡ []) }
