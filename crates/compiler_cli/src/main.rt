@@ -73,10 +73,4 @@ fn main(rt: HostRuntime) -> ExitCode {
 }
 
 #[cfg(test)]
-mod bound;
-#[cfg(test)]
-mod programs;
-#[cfg(test)]
-mod slow;
-#[cfg(test)]
 mod tests;

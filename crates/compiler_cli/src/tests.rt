@@ -1,23 +1,68 @@
-use crate::programs::{
-    CASES, CONTROL, COUNTERS, CUSTOM_DATA, ENDLESS, EXTENDED, FLOATS, INDEXED, LARGE_GROUP,
-    LATE_REGISTERS, LONG_END, LOOSE_END, NEGATED, NEGATED_MOVE, NO_END, NO_GROUP, NO_REGISTERS,
-    ODD_STRIDE, ONE_REGISTER, OPEN_LOOP, QUOTIENT, SHARED_SUM, SMALLEST, STRUCTURED, TWO_GROUPS,
-    WAITING, WRONG_VIEW, WRONG_WORDS, nested, storing,
-};
-use crate::slow::{SlowDesk, SlowSink};
+//! Rows on the top call: what is asked of it over an input, and what it should leave.
+ghost use Rattle.outside.specs.Memory.{told_of};
+
 use crate::{Status, run};
 use dxbc_container::build;
-use outside::{MemoryDesk, MemorySink, QuietDesk, QuietSink, Words};
+use outside::{Desk, Failed, MemoryDesk, MemorySink, QuietSink, Words};
 use std::alloc::{AllocError, Global};
-use std::process::Abort;
 use std::test::Fail;
 use word_base::NoMemory;
 
-/// The first bytes of a module of SPIR-V 1.3.
-const HEADER: [u8; 8] = [3, 2, 0x23, 7, 0, 3, 1, 0];
+/// A table: its rows, one behind the other.
+macro_rules! rows {
+    ($($row:expr;)*) => { [$($row),*] };
+}
+
+/// What should stand on a stream or in an output: so many bytes, or these from that place on.
+#[derive(Clone, Copy)]
+enum Want<'a> {
+    Count(usize),
+    At(usize, &'a [u8]),
+}
+
+const NOTHING: Want = Want::Count(0);
+
+/// A module of SPIR-V 1.3.
+const MODULE: Want = Want::At(0, &[3, 2, 0x23, 7, 0, 3, 1, 0]);
+
+/// Whether bytes are as wanted.
+fn fits(bytes: &[u8], want: Want) -> bool {
+    match want {
+        Want::Count(count) => bytes.len() == count,
+        Want::At(place, there) => bytes.get(place..).unwrap_or(&[]).starts_with(there),
+    }
+}
+
+/// Whether the stream of errors has this line alone, or nothing where it is empty.
+fn tells(bytes: &[u8], line: &str) -> bool {
+    let rest = bytes.strip_prefix(b"vkd3d-compiler: ").unwrap_or(bytes);
+    rest.strip_suffix(b"\n").unwrap_or(rest) == line.as_bytes()
+}
+
+/// Lines of words; for each the plans by which calls fail of the desk, of the output and of the stream of errors, counted
+/// from 1 and 0 for none; and for all of them the status, what should stand on the stream and in the first output, and
+/// what the line says.
+type Row<'a> = (
+    &'a [&'a str],
+    &'a [[u64; 3]],
+    Status,
+    [Want<'a>; 2],
+    &'a str,
+);
+
+/// A plan by which no call fails.
+const NEVER: &[[u64; 3]] = &[[0; 3]];
+
+/// A module on the stream, or the line of a rule alone.
+fn ruled<'a>(lines: &'a [&'a str], rule: &'a str) -> Row<'a> {
+    match rule.is_empty() {
+        true => (lines, NEVER, Status::Ok, [MODULE, NOTHING], ""),
+        false => (lines, NEVER, Status::Refused, [NOTHING; 2], rule),
+    }
+}
 
 /// The words of a command line, which spaces part.
-pub(crate) fn words(alloc: Global, line: &str) -> Result<Words, AllocError> {
+fn words(alloc: Global, line: &str) -> Result<Words, AllocError> {
     let mut list = Vec::new(alloc);
     for word in line.split_whitespace() {
         list.push(String::from_str(alloc, word)?)?;
@@ -25,273 +70,270 @@ pub(crate) fn words(alloc: Global, line: &str) -> Result<Words, AllocError> {
     Ok(Words { list })
 }
 
-/// The container of a program, of which no word behind the 65,537th counts.
-pub(crate) fn container(alloc: Global, tokens: &[u32]) -> Result<Vec<u8>, NoMemory> {
-    build(alloc, &tokens[..tokens.len().min(65_537)])
-}
-
 /// The numbers of failing calls: one, or none for 0.
-pub(crate) fn failing(alloc: Global, call: u64) -> Result<Vec<u64>, NoMemory> {
-    let mut list = Vec::new(alloc);
-    if call > 0 {
-        list.push(call).map_err(|_| NoMemory)?;
-    }
-    Ok(list)
+fn failing(alloc: Global, call: u64) -> Result<Vec<u64>, NoMemory> {
+    let numbers: &[u64] = if call > 0 { &[call] } else { &[] };
+    Vec::from_slice(alloc, numbers).map_err(|_| NoMemory)
 }
 
-/// A desk with these bytes on standard input and in the file `container`, with room for two outputs
-/// and with a failing call.
-fn desk(alloc: Global, bytes: &[u8], call: u64) -> Result<MemoryDesk, NoMemory> {
-    let mut desk = MemoryDesk::make(alloc, 2, 10_000, failing(alloc, call)?)?;
-    desk.add("-", bytes)?;
-    desk.add("container", bytes)?;
-    Ok(desk)
+/// A sink for so many bytes.
+fn sink(alloc: Global, room: u32, call: u64) -> Result<MemorySink, NoMemory> {
+    MemorySink::make(alloc, room, failing(alloc, call)?)
 }
 
-/// What a run left: on the stream of the output, on the stream of errors, and at the desk.
-#[derive(Drop)]
-struct Left {
-    status: Status,
-    out: MemorySink,
-    err: MemorySink,
-    desk: MemoryDesk,
-}
-
-/// Runs over one input, with a failing call of the desk, of the output and of the stream of errors.
-fn run_on(alloc: Global, line: &str, bytes: &[u8], calls: [u64; 3]) -> Result<Left, NoMemory> {
-    let words = words(alloc, line).map_err(|_| NoMemory)?;
-    let mut desk = desk(alloc, bytes, calls[0])?;
-    let mut out = MemorySink::make(alloc, 10_000_000, failing(alloc, calls[1])?)?;
-    let mut err = MemorySink::make(alloc, 1000, failing(alloc, calls[2])?)?;
-    let status = run(alloc, &words, &mut desk, &mut out, &mut err);
-    Ok(Left {
-        status,
-        out,
-        err,
-        desk,
-    })
+/// Gives a desk its files: the input under two names, and `b`.
+fn put(desk: &mut MemoryDesk, files: [&[u8]; 2]) -> Result<(), NoMemory> {
+    desk.add("-", files[0])?;
+    desk.add("container", files[0])?;
+    desk.add("b", files[1])
 }
 
 /// The bytes of the output that was begun first, or none.
 fn first_output(desk: &MemoryDesk) -> &[u8] {
-    if desk.outputs() == 0 {
-        return &[];
+    match desk.outputs() {
+        0 => &[],
+        _ => desk.output(0),
     }
-    desk.output(0)
 }
 
-/// The bytes, or none.
-fn where_there(bytes: &[u8], is_there: bool) -> &[u8] {
-    if is_there { bytes } else { &[] }
+/// A line of a row and one of its plans.
+type Case<'a> = (&'a str, [u64; 3]);
+
+/// Whether a run over a desk leaves what a row says.
+fn leaves(alloc: Global, desk: &mut MemoryDesk, case: Case, row: &Row) -> Result<bool, NoMemory> {
+    let words = words(alloc, case.0).map_err(|_| NoMemory)?;
+    let mut out = sink(alloc, 10_000_000, case.1[1])?;
+    let mut err = sink(alloc, 1000, case.1[2])?;
+    let status = run(alloc, &words, desk, &mut out, &mut err);
+    let written = fits(out.bytes(), row.3[0]) && fits(first_output(desk), row.3[1]);
+    Ok(status == row.2 && written && tells(err.bytes(), row.4))
 }
 
-/// Whether the bytes begin as a module of SPIR-V 1.3 does.
-fn is_module(bytes: &[u8]) -> bool {
-    bytes.len() > 20 && bytes.starts_with(&HEADER)
+/// Whether a run over an input and the file `b` does.
+fn passes(alloc: Global, files: [&[u8]; 2], case: Case, row: &Row) -> Result<bool, NoMemory> {
+    let mut desk = MemoryDesk::make(alloc, 2, 10_000, failing(alloc, case.1[0])?)?;
+    put(&mut desk, files)?;
+    leaves(alloc, &mut desk, case, row)
 }
 
-/// Runs of the smallest program: the words, the failing calls, the status, whether a module stands on
-/// the stream and whether in the first output of the desk, and the line.
-#[test]
-fn words_and_faults(rt: HostRuntime) -> Result<(), Fail> {
-    const USAGE: &str = "vkd3d-compiler: wrong words\n";
-    const FAULT: &str = "vkd3d-compiler: outside fault\n";
-    let rows: [(&str, [u64; 3], Status, bool, bool, &str); 15] = [
-        ("", [0, 0, 0], Status::Ok, true, false, ""),
-        ("-", [0, 0, 0], Status::Ok, true, false, ""),
-        ("container", [0, 0, 0], Status::Ok, true, false, ""),
-        ("-o m", [0, 0, 0], Status::Ok, false, true, ""),
-        ("-o m container", [0, 0, 0], Status::Ok, false, true, ""),
-        ("a b", [0, 0, 0], Status::Usage, false, false, USAGE),
-        ("-o", [0, 0, 0], Status::Usage, false, false, USAGE),
-        ("a b", [0, 0, 1], Status::Usage, false, false, ""),
-        ("x", [0, 0, 0], Status::Fault, false, false, FAULT),
-        ("", [1, 0, 0], Status::Fault, false, false, FAULT),
-        ("", [2, 0, 0], Status::Fault, false, false, FAULT),
-        ("", [3, 0, 0], Status::Fault, false, false, FAULT),
-        ("-o m", [4, 0, 0], Status::Fault, false, false, FAULT),
-        ("-o m", [5, 0, 0], Status::Fault, false, false, FAULT),
-        ("", [0, 1, 0], Status::Fault, false, false, FAULT),
-    ];
-    let bytes = container(rt.alloc(), &SMALLEST)?;
-    for (command, calls, status, on_stream, in_output, line) in &rows {
-        let left = run_on(rt.alloc(), command, &bytes, *calls)?;
-        assert_eq!(rt; left.status, *status);
-        assert_eq!(rt; is_module(left.out.bytes()), *on_stream);
-        assert_eq!(rt; is_module(first_output(&left.desk)), *in_output);
-        assert_eq!(rt; left.err.bytes(), line.as_bytes());
-    }
-    Ok(())
-}
-
-/// The container on standard input is translated, or refused for this rule, and nothing is written.
-fn answers(rt: &impl Abort, alloc: Global, bytes: &[u8], rule: &str) -> Result<(), NoMemory> {
-    let left = run_on(alloc, "", bytes, [0, 0, 0])?;
-    if rule.is_empty() {
-        assert_eq!(rt; left.status, Status::Ok);
-        assert!(rt; is_module(left.out.bytes()));
-        assert!(rt; left.err.bytes().is_empty());
-    } else {
-        assert_eq!(rt; left.status, Status::Refused);
-        assert!(rt; left.out.bytes().is_empty());
-        let line = format!(in alloc; "vkd3d-compiler: {rule}\n").map_err(|_| NoMemory)?;
-        assert_eq!(rt; left.err.bytes(), line.as_bytes());
-    }
-    Ok(())
-}
-
-/// Programs of the profile.
-#[test]
-fn programs(rt: HostRuntime) -> Result<(), Fail> {
-    let rows: [&[u32]; 9] = [
-        &NEGATED,
-        &QUOTIENT,
-        &STRUCTURED,
-        &INDEXED,
-        &CONTROL,
-        &SHARED_SUM,
-        &WAITING,
-        &COUNTERS,
-        &ENDLESS,
-    ];
-    for program in &rows {
-        answers(&rt, rt.alloc(), &container(rt.alloc(), program)?, "")?;
-    }
-    Ok(())
-}
-
-/// Programs and their first broken rule.
-#[test]
-fn refusals(rt: HostRuntime) -> Result<(), Fail> {
-    let rows: [(&[u32], &str); 18] = [
-        (&WRONG_WORDS, "K2 at 1: wrong program length"),
-        (&LONG_END, "K3 at 6: wrong instruction length"),
-        (&FLOATS, "K4 at 6: opcode outside the profile"),
-        (&EXTENDED, "K5 at 3: extended opcode outside the profile"),
-        (&NEGATED_MOVE, "K10 at 12: modifier not allowed here"),
-        (&CUSTOM_DATA, "K13 at 2: wrong custom data"),
-        (&TWO_GROUPS, "L1 at 6: declared twice"),
-        (&LATE_REGISTERS, "L2 at 7: declaration after an instruction"),
-        (&LARGE_GROUP, "L3 at 2: declaration past a limit"),
-        (&NO_GROUP, "L4 at 3: thread group missing"),
-        (&NO_REGISTERS, "L5 at 6: used but not declared"),
-        (&ONE_REGISTER, "L6 at 8: register past its declaration"),
-        (&ODD_STRIDE, "L7 at 2: wrong stride or size"),
-        (&WRONG_VIEW, "L8 at 15: wrong kind of view"),
-        (&LOOSE_END, "S1 at 7: end without opening"),
-        (&OPEN_LOOP, "S2 at 6: opening without end"),
-        (&CASES, "S7 at 13: case value given twice"),
-        (&NO_END, "S9 at 6: last instruction is not ret"),
-    ];
-    for (program, rule) in &rows {
-        answers(&rt, rt.alloc(), &container(rt.alloc(), program)?, rule)?;
-    }
-    Ok(())
-}
-
-/// Containers with one byte changed, cut short or made longer by zeros, and the first broken rule where
-/// there is one.
-#[test]
-fn containers(rt: HostRuntime) -> Result<(), Fail> {
-    let rows: [(usize, u8, usize, usize, &str); 11] = [
-        (4, 0xAB, 72, 4, ""),
-        (0, 68, 71, 0, "C4 at 24: wrong total size"),
-        (0, 68, 0, 0, "C1 at 0: container shorter than 32 bytes"),
-        (0, 68, 0, 16_777_217, "M1 at 16777216: file too large"),
-        (0, 67, 72, 0, "C2 at 0: wrong tag"),
-        (20, 2, 72, 0, "C3 at 20: wrong container version"),
-        (24, 73, 72, 0, "C4 at 24: wrong total size"),
-        (28, 0, 72, 0, "C7 at 28: chunk missing"),
-        (31, 1, 72, 0, "C5 at 28: chunk table does not fit"),
-        (35, 1, 72, 0, "C6 at 32: chunk outside the container"),
-        (40, 26, 72, 0, "C9 at 32: wrong program size"),
-    ];
-    for (place, byte, count, zeros, rule) in &rows {
-        let mut bytes = container(rt.alloc(), &SMALLEST)?;
-        if let Some(old) = bytes.get_mut(*place) {
-            *old = *byte;
-        }
-        bytes.truncate(*count);
-        bytes.resize(count + zeros, 0)?;
-        answers(&rt, rt.alloc(), &bytes, rule)?;
-    }
-    Ok(())
-}
-
-/// As many openings as may stand in one another, and one more.
-#[test]
-fn deep_nesting(rt: HostRuntime) -> Result<(), Fail> {
-    let alloc = rt.alloc();
-    for (depth, rule) in &[(64, ""), (65, "M3 at 136: nesting too deep")] {
-        let bytes = container(alloc, &nested(alloc, *depth)?)?;
-        answers(&rt, alloc, &bytes, rule)?;
-    }
-    Ok(())
-}
-
-/// The longest program there may be, and one with a word more: so many times `nop`, the failing call of
-/// the output, the status, and the bytes written where the module is not whole.
-#[test]
-fn longest_program(rt: HostRuntime) -> Result<(), Fail> {
-    let alloc = rt.alloc();
-    let rows: [(u8, u64, Status, usize); 3] = [
-        (5, 0, Status::Ok, 0),
-        (5, 3, Status::Fault, 8192),
-        (6, 0, Status::Refused, 0),
-    ];
-    for (idle, call, status, written) in &rows {
-        let bytes = container(alloc, &storing(alloc, *idle)?)?;
-        let left = run_on(alloc, "", &bytes, [0, *call, 0])?;
-        assert_eq!(rt; left.status, *status);
-        if *status == Status::Ok {
-            assert!(rt; is_module(left.out.bytes()));
-        } else {
-            assert_eq!(rt; left.out.bytes().len(), *written);
+/// How many runs of a row leave something else.
+fn failed(alloc: Global, files: [&[u8]; 2], row: &Row) -> Result<u64, NoMemory> {
+    let mut failed = 0u64;
+    for line in row.0 {
+        for calls in row.1 {
+            failed += u64::from(!passes(alloc, files, (line, *calls), row)?);
         }
     }
-    Ok(())
+    Ok(failed)
 }
 
-/// Runs over a desk and sinks that never fail: the words, the program and the status.
+/// A program by the words behind its head, so many times each, and the bytes that its container has at a place instead.
+type Input<'a> = (&'a [(&'a [u32], usize)], usize, &'a [u8]);
+
+/// The words of a program.
+fn tokens(alloc: Global, parts: &[(&[u32], usize)]) -> Result<Vec<u32>, AllocError> {
+    let mut tokens = Vec::from_slice(alloc, &[0x00050050, 2])?;
+    for (words, count) in parts {
+        for _ in 0..*count {
+            tokens.extend_from_slice(words)?;
+        }
+    }
+    tokens.truncate(100_000);
+    tokens[1] = tokens.len() as u32;
+    Ok(tokens)
+}
+
+/// Puts bytes at a place, as far as there is room.
+fn change(bytes: &mut [u8], place: usize, new: &[u8]) {
+    for (old, byte) in bytes.iter_mut().skip(place).zip(new) {
+        *old = *byte;
+    }
+}
+
+/// The container of an input.
+fn container(alloc: Global, input: Input) -> Result<Vec<u8>, NoMemory> {
+    let mut bytes = build(alloc, &tokens(alloc, input.0).map_err(|_| NoMemory)?)?;
+    change(&mut bytes, input.1, input.2);
+    Ok(bytes)
+}
+
+/// A group of one lane.
+const GROUP: [u32; 4] = [0x0400009B, 1, 1, 1];
+
+const RET: [u32; 1] = [0x0100003E];
+
+/// The smallest program.
+const LANE: &[(&[u32], usize)] = &[(&GROUP, 1), (&RET, 1)];
+
+/// A store of four words to u0.
+const STORE: Input = (
+    &[
+        (&[0x0300009D, 0x0011E000, 0], 1),
+        (&GROUP, 1),
+        (
+            &[0x0A0000A6, 0x0011E0F2, 0, 0x4001, 8, 0x4002, 1, 2, 3, 4],
+            1,
+        ),
+        (&RET, 1),
+    ],
+    0,
+    b"",
+);
+
+/// Inputs with the text of the file `b` and what runs over them leave.
 #[test]
-fn quiet_ones(rt: HostRuntime) -> Result<(), Fail> {
-    let rows: [(&str, &[u32], Status); 3] = [
-        ("-o m container", &SMALLEST, Status::Ok),
-        ("container", &NEGATED_MOVE, Status::Refused),
-        ("-p", &SMALLEST, Status::Usage),
-    ];
-    for (command, program, status) in &rows {
-        let words = words(rt.alloc(), command)?;
-        let mut desk = QuietDesk::make(container(rt.alloc(), program)?);
-        let mut out = QuietSink::make();
-        let mut err = QuietSink::make();
-        let left = run(rt.alloc(), &words, &mut desk, &mut out, &mut err);
-        assert_eq!(rt; left, *status);
+fn cases(rt: HostRuntime) -> Result<(), Fail> {
+    let (input, opened) = ([0x0200005F, 0x00024000], [0x0204001F, 0x0002400A]);
+    let (shared, stored) = (
+        [0x0400009F, 0x0011F000, 0, 4],
+        [0x070000A6, 0x0011F012, 0, 0x00004001, 0, 0x00004001, 1],
+    );
+    let tables: [(Input, &str, Row); 43] = rows! {
+        (STORE, "", (&["", "-", "container", "-x dxbc-tpf -b spirv-binary --spirv-version 1.3"], NEVER, Status::Ok, [MODULE, NOTHING], ""));
+        (STORE, "", (&["-o m", "-o m container"], NEVER, Status::Ok, [NOTHING, MODULE], ""));
+        (STORE, "", (&["a b", "-o", "-b dxil", "--spirv-version 1.5", "--bindings b --root-signature b b"], NEVER, Status::Usage, [NOTHING; 2], "wrong words"));
+        (STORE, "", (&["a b"], &[[0, 0, 1]], Status::Usage, [NOTHING; 2], ""));
+        (STORE, "", (&["x", "--bindings c"], NEVER, Status::Fault, [NOTHING; 2], "outside fault"));
+        (STORE, "u0 1 4\n", (&["--bindings b"], &[[1, 0, 0], [2, 0, 0], [3, 0, 0], [4, 0, 0], [5, 0, 0], [6, 0, 0]], Status::Fault, [NOTHING; 2], "outside fault"));
+        (STORE, "", (&["-o m"], &[[4, 0, 0], [5, 0, 0]], Status::Fault, [NOTHING; 2], "outside fault"));
+        (STORE, "", (&[""], &[[0, 1, 0]], Status::Fault, [NOTHING; 2], "outside fault"));
+        (STORE, "", (&[""], &[[0, 1, 1]], Status::Fault, [NOTHING; 2], ""));
+        (STORE, "u0 1\n", (&["--bindings b"], &[[0, 0, 1]], Status::Refused, [NOTHING; 2], ""));
+        // Texts, and the first broken rule where there is one.
+        (STORE, "# a\nu0 1 4\n", ruled(&["--bindings b"], ""));
+        (STORE, "u0 1 4\nt0 1 4\n", ruled(&["--bindings b"], "B2 at 2: binding given twice"));
+        (STORE, "u0 1\n", ruled(&["--bindings b"], "B3 at 1: binding line not read"));
+        (STORE, "t0 0 0\n", ruled(&["--bindings b"], ""));
+        (STORE, "", ruled(&["--bindings b"], ""));
+        // Bytes of the module: its version, the interface of its entry point with the variable of u0 in 1.4, that variable, and its set and binding.
+        (STORE, "", (&[""], NEVER, Status::Ok, [Want::At(64, &[15, 0, 5, 0]), NOTHING], ""));
+        (STORE, "", (&["--spirv-version 1.4"], NEVER, Status::Ok, [Want::At(4, &[0, 4, 1, 0]), NOTHING], ""));
+        (STORE, "", (&["--spirv-version 1.4"], NEVER, Status::Ok, [Want::At(84, &[25, 0, 0, 0]), NOTHING], ""));
+        (STORE, "", (&["--spirv-version 1.4"], NEVER, Status::Ok, [Want::At(544, &[59, 0, 4, 0, 24, 0, 0, 0, 25, 0, 0, 0, 12, 0, 0, 0]), NOTHING], ""));
+        (STORE, "u0 1 4\n", (&["--bindings b"], NEVER, Status::Ok, [Want::At(156, &[71, 0, 4, 0, 25, 0, 0, 0, 34, 0, 0, 0, 1, 0, 0, 0]), NOTHING], ""));
+        (STORE, "u0 1 4\n", (&["--bindings b"], NEVER, Status::Ok, [Want::At(172, &[71, 0, 4, 0, 25, 0, 0, 0, 33, 0, 0, 0, 4, 0, 0, 0]), NOTHING], ""));
+        // A sum whose first source is negated, quotients by zero and by three, indexed registers, a lane that waits, a counter, and a loop without a way out.
+        ((&[(&[0x0300009D, 0x0011E000, 0, 0x0200005F, 0x00024000, 0x02000068, 1, 0x0400009B, 2, 1, 1, 0x06000029, 0x00100022, 0, 0x0002400A, 0x00004001,
+            31, 0x0800001E, 0x00100012, 0, 0x8010001A, 65, 0, 0x00004001, 1, 0x06000029, 0x00100042, 0, 0x0002400A, 0x00004001, 2, 0x070000A6,
+            0x0011E012, 0, 0x0010002A, 0, 0x0010000A, 0, 0x0100003E], 1)], 0, b""), "", ruled(&[""], ""));
+        ((&[(&[0x0300009D, 0x0011E000, 0, 0x02000068, 1, 0x0400009B, 1, 1, 1, 0x0E00004E, 0x00100032, 0, 0x0000D000, 0x00004002, 7, 7, 0, 0, 0x00004002,
+            0, 3, 0, 0, 0x070000A6, 0x0011E032, 0, 0x00004001, 0, 0x00100046, 0, 0x0100003E], 1)], 0, b""), "", ruled(&[""], ""));
+        ((&[(&[0x0300009D, 0x0011E000, 0, 0x02000068, 2, 0x04000069, 1, 3, 4, 0x0400009B, 1, 1, 1, 0x06000036, 0x00203012, 1, 2, 0x00004001, 42,
+            0x05000036, 0x00100012, 0, 0x00004001, 0xFFFFFFFF, 0x08000036, 0x00100012, 1, 0x0620300A, 1, 3, 0x0010000A, 0, 0x08000036, 0x00100022, 1,
+            0x0620300A, 1, 4, 0x0010000A, 0, 0x070000A6, 0x0011E032, 0, 0x00004001, 0, 0x00100046, 1, 0x0100003E], 1)], 0, b""), "", ruled(&[""], ""));
+        ((&[(&[0x0200005F, 0x00024000, 0x0400009B, 2, 1, 1, 0x0200001F, 0x0002400A, 0x0100003E, 0x01000015, 0x010018BE,
+            0x0100003E], 1)], 0, b""), "", ruled(&[""], ""));
+        ((&[(&[0x0400009E, 0x0011E000, 0, 4, 0x0300009D, 0x0011E000, 1, 0x02000068, 1, 0x0400009B, 1, 1, 1, 0x050000B2, 0x00100012, 0, 0x0011E000, 0,
+            0x050000B3, 0x00100022, 0, 0x0011E000, 0, 0x050000B3, 0x00100042, 0, 0x0011E000, 0, 0x070000A6, 0x0011E072, 1, 0x00004001, 0, 0x00100246, 0,
+            0x0100003E], 1)], 0, b""), "", ruled(&[""], ""));
+        ((&[(&[0x0400009B, 1, 1, 1, 0x01000030, 0x01000016, 0x0100003E], 1)], 0, b""), "", ruled(&[""], ""));
+        // A broken rule of each phase, the first also where the file `b` breaks one.
+        ((LANE, 4, &[0xAB]), "", ruled(&[""], ""));
+        ((LANE, 24, &[73]), "", ruled(&[""], "C4 at 24: wrong total size"));
+        ((LANE, 51, &[255]), "", ruled(&[""], "K2 at 1: wrong program length"));
+        ((LANE, 71, &[2]), "", ruled(&[""], "K3 at 6: wrong instruction length"));
+        ((LANE, 68, &[0]), "u0 1\n", ruled(&["", "--bindings b", "--root-signature b"], "K4 at 6: opcode outside the profile"));
+        ((LANE, 55, &[0x84]), "", ruled(&[""], "K5 at 3: extended opcode outside the profile"));
+        ((LANE, 57, &[7]), "", ruled(&[""], "L3 at 2: declaration past a limit"));
+        ((&[(&[53, 0xFFFFFFFF], 1)], 0, b""), "", ruled(&[""], "K13 at 2: wrong custom data"));
+        ((&[(&[0x0400009B, 1, 1, 1, 0x05000036, 0x00100012, 0, 0x00004001, 7, 0x0100003E], 1)], 0, b""), "", ruled(&[""], "L5 at 6: used but not declared"));
+        ((&[(&[0x0400009B, 1, 1, 1, 0x0100003A, 0x01000016, 0x0100003E], 1)], 0, b""), "", ruled(&[""], "S1 at 7: end without opening"));
+        ((&[(&[0x04000059, 0x00208E46, 0, 1, 0x0400009B, 1, 1, 1,
+            0x0100003E], 1)], 0, b""), "t0 0 0\n", ruled(&["--bindings b"], "B1 at 2: register without binding"));
+        // As many openings as may stand in one another and one more, and the longest program, written whole and in part, and one with a word more.
+        ((&[(&input, 1), (&GROUP, 1), (&opened, 64), (&[0x01000015], 64), (&RET, 1)], 0, b""), "", ruled(&[""], ""));
+        ((&[(&input, 1), (&GROUP, 1), (&opened, 65), (&[0x01000015], 65), (&RET, 1)], 0, b""), "", ruled(&[""], "M3 at 136: nesting too deep"));
+        ((&[(&shared, 1), (&GROUP, 1), (&stored, 9360), (&[0x0100003A], 5), (&RET, 1)], 0, b""), "", ruled(&[""], ""));
+        ((&[(&shared, 1), (&GROUP, 1), (&stored, 9360), (&[0x0100003A], 5), (&RET, 1)], 0, b""), "",
+            (&[""], &[[0, 3, 0]], Status::Fault, [Want::Count(8192), NOTHING], "outside fault"));
+        ((&[(&shared, 1), (&GROUP, 1), (&stored, 9360), (&[0x0100003A], 6), (&RET, 1)], 0, b""), "", ruled(&[""], "M2 at 1: program too long"));
+    };
+    for (input, text, row) in &tables {
+        let bytes = container(rt.alloc(), *input)?;
+        assert_eq!(rt; failed(rt.alloc(), [&bytes, text.as_bytes()], row)?, 0);
     }
     Ok(())
 }
 
-/// A desk and a sink that move one byte a call: the words, and whether the module stands on the stream
-/// and in the first output of the desk, with the bytes that a stream gets at once.
+/// Files that are empty, and longer by a byte than a file may be.
+#[test]
+fn files(rt: HostRuntime) -> Result<(), Fail> {
+    for (size, rule) in rows! {
+        (0, "C1 at 0: container shorter than 32 bytes");
+        (16_777_217, "M1 at 16777216: file too large");
+    } {
+        let bytes = vec![in rt.alloc(); 0; size]?;
+        assert_eq!(rt; failed(rt.alloc(), [&bytes, b""], &ruled(&[""], rule))?, 0);
+    }
+    Ok(())
+}
+
+/// A container of a root signature, of two root constants for cb0, a table with t0, and u0, with bytes changed.
+#[test]
+fn signatures(rt: HostRuntime) -> Result<(), Fail> {
+    let input = container(rt.alloc(), STORE)?;
+    let words = [
+        2, 3, 24, 0, 0, 0, 1, 0, 60, 0, 0, 72, 4, 0, 104, 0, 0, 2, 1, 80, 0, 1, 0, 0, 0, 0, 0, 0, 0,
+    ];
+    let tables: [(usize, &[u8], &str); 5] = rows! {
+        (36, b"RTS0", "");
+        (36, b"SHEX", "G6 at 0: no root signature");
+        (44, &[3], "G1 at 0: wrong root signature version");
+        (112, &[65], "G5 at 60: too many root constants");
+        (52, &[0xFC, 255, 255, 255], "G2 at 4294967292: root signature truncated");
+    };
+    for (place, new, rule) in &tables {
+        let mut file = build(rt.alloc(), &words)?;
+        change(&mut file, 36, b"RTS0");
+        change(&mut file, *place, new);
+        let row = ruled(&["--root-signature b"], rule);
+        assert_eq!(rt; failed(rt.alloc(), [&input, &file], &row)?, 0);
+    }
+    Ok(())
+}
+
+/// A desk that moves one byte a call.
+#[derive(Drop)]
+struct SlowDesk {
+    desk: MemoryDesk,
+}
+
+impl Desk for SlowDesk {
+    ghost told = { λ s. told_of s.desk };
+
+    fn begin_read(&mut self, name: &str) -> Result<(), Failed> {
+        self.desk.begin_read(name)
+    }
+
+    #[tactic(auto, using(crate::proofs::OneByte::reads))]
+    fn read(&mut self, piece: &mut [u8]) -> Result<usize, Failed> {
+        if piece.is_empty() {
+            return Ok(0);
+        }
+        let mut byte = [0];
+        let count = self.desk.read(&mut byte)?;
+        piece[0] = byte[0];
+        Ok(count)
+    }
+
+    fn begin_write(&mut self, name: &str) -> Result<(), Failed> {
+        self.desk.begin_write(name)
+    }
+
+    fn write(&mut self, piece: &[u8]) -> Result<usize, Failed> {
+        self.desk.write(piece.get(..1).unwrap_or(piece))
+    }
+}
+
+/// A run over that desk.
 #[test]
 fn one_byte_a_call(rt: HostRuntime) -> Result<(), Fail> {
-    let rows: [(&str, bool); 2] = [("", true), ("-o m", false)];
-    let bytes = container(rt.alloc(), &SMALLEST)?;
-    let whole = run_on(rt.alloc(), "", &bytes, [0, 0, 0])?;
-    for (command, on_stream) in &rows {
-        let words = words(rt.alloc(), command)?;
-        let mut files = SlowDesk {
-            desk: desk(rt.alloc(), &bytes, 0)?,
-        };
-        let mut out = SlowSink {
-            sink: MemorySink::make(rt.alloc(), 10_000, failing(rt.alloc(), 0)?)?,
-        };
-        let mut err = QuietSink::make();
-        let status = run(rt.alloc(), &words, &mut files, &mut out, &mut err);
-        assert_eq!(rt; status, Status::Ok);
-        let module = whole.out.bytes();
-        assert_eq!(rt; out.sink.bytes(), where_there(module, *on_stream));
-        assert_eq!(rt; first_output(&files.desk), where_there(module, !*on_stream));
-    }
+    let (alloc, mut out, mut err) = (rt.alloc(), QuietSink::make(), QuietSink::make());
+    let desk = MemoryDesk::make(alloc, 1, 10_000, Vec::new(alloc))?;
+    let mut slow = SlowDesk { desk };
+    put(&mut slow.desk, [&container(alloc, STORE)?, b""])?;
+    let status = run(alloc, &words(alloc, "-o m")?, &mut slow, &mut out, &mut err);
+    assert_eq!(rt; status, Status::Ok);
+    assert!(rt; fits(first_output(&slow.desk), MODULE));
     Ok(())
 }

@@ -1,5 +1,5 @@
 //! The translation of an input that was read to an output.
-ghost use Rattle.std.specs.Prelude.{◌≡◌, ◌≤◌, List, length, IfErr, IfOk, OnOk};
+ghost use Rattle.std.specs.Prelude.{◌≡◌, ℕ, ◌≤◌, List, length, IfErr, IfOk, OnOk};
 ghost use Rattle.word_base.specs.Rules.{IsSound};
 ghost use Rattle.root_signature.specs.declared.covers.Covers.{Covers};
 ghost use Rattle.root_signature.specs.Refusals.{IsBroken};
@@ -7,6 +7,7 @@ ghost use Rattle.root_signature.specs.Signatures.{Reads};
 ghost use Rattle.binding_map.specs.Roots.{root_map};
 ghost use Rattle.binding_map.specs.Texts.{TextBreaks, text_map};
 ghost use Rattle.command_line.specs.Shown.{choice_shown, job_shown};
+ghost use Rattle.translator.specs.Input.{NamesWords};
 ghost use Rattle.compiler_cli.specs.Output.{AreTaken, BreaksFile, IsMapOf};
 ghost use Rattle.compiler_cli.specs.Parts.{HindersBy, IsHindered, Translates, failure_by};
 ghost use Rattle.compiler_cli.specs.Run.{outside as seen};
@@ -94,11 +95,33 @@ pub(crate) fn translate_to<D: Desk, O: Sink>(
         (seen (D.told desk.new) (O.written out.new) (O.faults out.new))
         input.now file.now result }
 {
-    input_laws();
-    signature_laws();
     let Ok(mut work) = Workspace::make(alloc, room_for(input)) else {
         return Err(Failure::NoMemory);
     };
+    let result = translate_in(&mut work, alloc, desk, out, command, input, file);
+    work.release();
+    result
+}
+
+/// Does it in a workspace with room for the program of the input.
+fn translate_in<D: Desk, O: Sink>(
+    work: &mut Workspace,
+    alloc: Global,
+    desk: &mut D,
+    out: &mut O,
+    command: Command,
+    input: &[u8],
+    file: &[u8],
+) -> Result<(), Failure>
+    requires taken { AreTaken input.now file.now }
+    requires room { (n : ℕ) → NamesWords input.now n → n ≤ work.old.words }
+    ensures { Translates (job_shown command.entry)
+        (seen (D.told desk.old) (O.written out.old) (O.faults out.old))
+        (seen (D.told desk.new) (O.written out.new) (O.faults out.new))
+        input.now file.now result }
+{
+    input_laws();
+    signature_laws();
     if let Err(refusal) = work.read(input) {
         return Err(Failure::Refused(refusal));
     }
@@ -107,7 +130,7 @@ pub(crate) fn translate_to<D: Desk, O: Sink>(
         Err(failure) => return Err(failure),
     };
     let mut buffer = [0; PIECE];
-    match translate_read(&mut work, &bindings, command.version) {
+    match translate_read(work, &bindings, command.version) {
         Ok(view) => match deliver(desk, out, command.output, &view, &mut buffer) {
             Ok(()) => Ok(()),
             Err(_) => Err(Failure::Fault),

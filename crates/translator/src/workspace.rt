@@ -124,6 +124,9 @@ impl Workspace {
         &self.program
     }
 
+    /// Lets the workspace go, with its room. A caller that goes on in several ways hands it here at the end of all.
+    pub fn release(self) {}
+
     /// Lets go of the module that is held. The room stays.
     pub(crate) fn clear(&mut self)
         ensures unused { IsUnused self.new }

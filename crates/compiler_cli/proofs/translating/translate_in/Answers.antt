@@ -10,28 +10,24 @@ use Rattle.translator.specs.Shown.{module_words}
 use Rattle.compiler_cli.specs.Output.{IsMapOf}
 use Rattle.compiler_cli.specs.Run.{outside as seen}
 use Rattle.compiler_cli.proofs.JobRules.{first_of_input, first_of_map, module_of, none_of_all, not_mapped, refused}
-use Rattle.compiler_cli.proofs.translating.translate_to.Goals as goal
+use Rattle.compiler_cli.proofs.translating.translate_in.Goals as goal
 
 pub returns-in-Err : goal.returns-in-Err
 returns-in-Err g c =
     let input = c.args.input.now in
-    let first : IsFirst (IsBroken c.room_for.result input default_map) c.in-Err.refusal =
-    subst (λ (n : ℕ). IsFirst (IsBroken n input default_map) c.in-Err.refusal) c.in-Ok.ensures.rooms.words'
-    (c.in-Err.ensures.refused default_map) in
     refused (job_shown c.args.command) input c.args.file.now
     (seen (g.D.Desk.told c.args.desk.now) (g.O.Sink.written c.args.out.now) (g.O.Sink.faults c.args.out.now))
     c.in-Err.refusal
     (first_of_input (choice_shown c.args.command.bindings) input c.args.file.now c.requires.taken
     (c.input_laws.ensures.sound input) c.in-Err.refusal
-    (c.input_laws.ensures.first input c.room_for.result
-    (λ (n : ℕ) h. let e : c.room_for.result ≡ n = c.room_for.ensures.named n h in omega (arith, e)) c.in-Err.refusal
-    first))
+    (c.input_laws.ensures.first input c.args.work.now.words c.requires.room c.in-Err.refusal
+    (c.in-Err.ensures.refused default_map)))
 
 pub returns-in-Err-map_for : goal.returns-in-Err-map_for
 returns-in-Err-map_for g c =
     let input = c.args.input.now in
     let p = c.read.new.self.program in
-    let read : IsRead c.in-Ok.work.words input p = c.in_default-read.ensures.read in
+    let read : IsRead c.args.work.now.words input p = c.in_default-read.ensures.read in
     not_mapped (job_shown c.args.command) input c.args.file.now
     (seen (g.D.Desk.told c.args.desk.now) (g.O.Sink.written c.args.out.now) (g.O.Sink.faults c.args.out.now))
     c.in-Err-map_for.failure c.requires.taken (c.input_laws.ensures.sound input p read.read read.checked)
@@ -44,7 +40,7 @@ returns-in-Ok-deliver g c =
     let file = c.args.file.now in
     let p = c.read.new.self.program in
     let bindings = c.in-Ok-map_for.bindings in
-    let read : IsRead c.in-Ok.work.words input p = c.in_default-read.ensures.read in
+    let read : IsRead c.args.work.now.words input p = c.in_default-read.ensures.read in
     let gives : IsMapOf choice file p bindings =
     subst (λ (x : Shader). IsMapOf choice file x bindings) c.program.ensures c.in-Ok-map_for.ensures.map in
     record {
@@ -53,7 +49,7 @@ returns-in-Ok-deliver g c =
           (c.signature_laws.ensures.single file) (c.input_laws.ensures.sound input p read.read read.checked)
           c.in-Ok-map_for.ensures.sound p read.read read.checked bindings gives c.in-Ok-translate_read.ensures.bound;
       made = module_of choice c.args.command.version input file p bindings (module_words c.in-Ok-translate_read.view)
-          read.read gives (c.in-Ok-translate_read.ensures.means c.in-Ok.work.words input read);
+          read.read gives (c.in-Ok-translate_read.ensures.means c.args.work.now.words input read);
       written = c.in-Ok-deliver.ensures.0;
       left = c.in-Ok-deliver.ensures.1;
     }
@@ -65,7 +61,7 @@ returns-in-Ok-translate_read g c =
     let file = c.args.file.now in
     let p = c.read.new.self.program in
     let bindings = c.in-Ok-map_for.bindings in
-    let read : IsRead c.in-Ok.work.words input p = c.in_default-read.ensures.read in
+    let read : IsRead c.args.work.now.words input p = c.in_default-read.ensures.read in
     let gives : IsMapOf choice file p bindings =
     subst (λ (x : Shader). IsMapOf choice file x bindings) c.program.ensures c.in-Ok-map_for.ensures.map in
     record {
@@ -74,7 +70,7 @@ returns-in-Ok-translate_read g c =
           (c.signature_laws.ensures.single file) (c.input_laws.ensures.sound input p read.read read.checked)
           c.in-Ok-map_for.ensures.sound p read.read read.checked bindings gives c.in-Ok-translate_read.ensures.bound;
       made = module_of choice c.args.command.version input file p bindings (module_words c.in-Ok-translate_read.view)
-          read.read gives (c.in-Ok-translate_read.ensures.means c.in-Ok.work.words input read);
+          read.read gives (c.in-Ok-translate_read.ensures.means c.args.work.now.words input read);
       cause = c.in-Err-deliver.ensures.1;
       written = c.in-Err-deliver.ensures.0;
     }
@@ -86,7 +82,7 @@ returns g c =
     let file = c.args.file.now in
     let p = c.read.new.self.program in
     let bindings = c.in-Ok-map_for.bindings in
-    let read : IsRead c.in-Ok.work.words input p = c.in_default-read.ensures.read in
+    let read : IsRead c.args.work.now.words input p = c.in_default-read.ensures.read in
     let gives : IsMapOf choice file p bindings =
     subst (λ (x : Shader). IsMapOf choice file x bindings) c.program.ensures c.in-Ok-map_for.ensures.map in
     refused (job_shown c.args.command) input file
