@@ -20,17 +20,22 @@ enum Step {
 
 /// What a table says: how many words wait, how many of them of arrays, the last that waits with its id,
 /// and the ids of the three words above.
-type Said = (usize, u32, Option<(Word, u32)>, [Option<u32>; 3]);
+type Said = (
+    usize,
+    u32,
+    Option<(Word, u32)>,
+    (Option<u32>, Option<u32>, Option<u32>),
+);
 
 const STEPS: &[(&[Step], Said)] = &rows! {
-    (&[], (0, 0, None, [None, None, None]));
-    (&[Step::Put(SCRATCH, 7), Step::Keep(REGISTER, 8)], (1, 0, Some((SCRATCH, 7)), [Some(7), Some(8), None]));
-    (&[Step::Put(ELEMENT, 9), Step::Put(REGISTER, 10), Step::Put(SCRATCH, 11)], (3, 1, Some((ELEMENT, 9)), [Some(11), Some(10), Some(9)]));
-    (&[Step::Settle], (2, 0, Some((REGISTER, 10)), [Some(11), Some(10), Some(9)]));
-    (&[Step::DropElements], (2, 0, Some((REGISTER, 10)), [Some(11), Some(10), None]));
-    (&[Step::Settle], (1, 0, Some((SCRATCH, 11)), [Some(11), Some(10), None]));
-    (&[Step::Clear], (0, 0, None, [None, None, None]));
-    (&[Step::Put(REGISTER, 12)], (1, 0, Some((REGISTER, 12)), [None, Some(12), None]));
+    (&[], (0, 0, None, (None, None, None)));
+    (&[Step::Put(SCRATCH, 7), Step::Keep(REGISTER, 8)], (1, 0, Some((SCRATCH, 7)), (Some(7), Some(8), None)));
+    (&[Step::Put(ELEMENT, 9), Step::Put(REGISTER, 10), Step::Put(SCRATCH, 11)], (3, 1, Some((ELEMENT, 9)), (Some(11), Some(10), Some(9))));
+    (&[Step::Settle], (2, 0, Some((REGISTER, 10)), (Some(11), Some(10), Some(9))));
+    (&[Step::DropElements], (2, 0, Some((REGISTER, 10)), (Some(11), Some(10), None)));
+    (&[Step::Settle], (1, 0, Some((SCRATCH, 11)), (Some(11), Some(10), None)));
+    (&[Step::Clear], (0, 0, None, (None, None, None)));
+    (&[Step::Put(REGISTER, 12)], (1, 0, Some((REGISTER, 12)), (None, Some(12), None)));
 };
 
 fn take(table: &mut Kept, step: Step) {
@@ -45,11 +50,11 @@ fn take(table: &mut Kept, step: Step) {
 }
 
 fn said(table: &Kept) -> Said {
-    let ids = [
+    let ids = (
         table.find(SCRATCH),
         table.find(REGISTER),
         table.find(ELEMENT),
-    ];
+    );
     (table.waiting(), table.waiting_elements(), table.last(), ids)
 }
 
@@ -78,6 +83,6 @@ fn words_wait_and_are_forgotten(rt: HostRuntime) -> Result<(), Fail> {
 fn a_table_may_keep_no_word(rt: HostRuntime) -> Result<(), Fail> {
     let table = Kept::make(rt.alloc(), 0, 0, 0)?;
     assert!(rt; !table.holds(Word::Scratch(0)));
-    assert_eq!(rt; said(&table), (0, 0, None, [None, None, None]));
+    assert_eq!(rt; said(&table), (0, 0, None, (None, None, None)));
     Ok(())
 }

@@ -1,5 +1,5 @@
 //! Where the registers of programs are bound.
-use crate::reading::{SMALLEST, bytes_of, program};
+use crate::reading::{bytes_of, program};
 use binding_map::{Bindings, Place, Register, complete, from_default, from_root, from_text};
 use root_signature::{RootSignature, parse};
 use std::alloc::Global;
@@ -10,23 +10,23 @@ use word_base::{Halt, NoMemory, Rule};
 
 /// u0 and u1 with structures of four bytes, `imm_atomic_alloc r0.x, u0`, `imm_atomic_consume r0.x, u0` and
 /// `atomic_iadd u1, l(0), l(1)`.
-const COUNTED: [u32; 28] = [
-    0x00050050, 28, 0x0480009E, 0x0011E000, 0, 4, 0x0480009E, 0x0011E000, 1, 4, 0x050000B2,
-    0x00100012, 0, 0x0011E000, 0, 0x050000B3, 0x00100012, 0, 0x0011E000, 0, 0x070000AD, 0x0011E000,
-    1, 0x00004001, 0, 0x00004001, 1, 0x0100003E,
+const COUNTED: [u32; 26] = [
+    0x0480009E, 0x0011E000, 0, 4, 0x0480009E, 0x0011E000, 1, 4, 0x050000B2, 0x00100012, 0,
+    0x0011E000, 0, 0x050000B3, 0x00100012, 0, 0x0011E000, 0, 0x070000AD, 0x0011E000, 1, 0x00004001,
+    0, 0x00004001, 1, 0x0100003E,
 ];
 
 /// The last slots of each kind, in another order: u63, t127, cb13, t0, cb2, and `imm_atomic_consume r0.x, u63`.
-const LAST_SLOTS: [u32; 26] = [
-    0x00050050, 26, 0x0480009E, 0x0011E000, 63, 4, 0x030000A1, 0x00107000, 127, 0x04000059,
-    0x00208E46, 13, 1, 0x030000A1, 0x00107000, 0, 0x04000059, 0x00208E46, 2, 1, 0x050000B3,
-    0x00100012, 0, 0x0011E000, 63, 0x0100003E,
+const LAST_SLOTS: [u32; 24] = [
+    0x0480009E, 0x0011E000, 63, 4, 0x030000A1, 0x00107000, 127, 0x04000059, 0x00208E46, 13, 1,
+    0x030000A1, 0x00107000, 0, 0x04000059, 0x00208E46, 2, 1, 0x050000B3, 0x00100012, 0, 0x0011E000,
+    63, 0x0100003E,
 ];
 
 /// cb0, t0 and u0 are declared, each with one element, and a group of one thread; and `ret`.
-const HISTOGRAM: [u32; 18] = [
-    0x00050050, 18, 0x04000059, 0x00208E46, 0, 1, 0x040000A2, 0x00107000, 0, 4, 0x0300009D,
-    0x0011E000, 0, 0x0400009B, 1, 1, 1, 0x0100003E,
+const HISTOGRAM: [u32; 16] = [
+    0x04000059, 0x00208E46, 0, 1, 0x040000A2, 0x00107000, 0, 4, 0x0300009D, 0x0011E000, 0,
+    0x0400009B, 1, 1, 1, 0x0100003E,
 ];
 
 /// Two root constants at cb0, a table with a range of one t0, and a descriptor of u0.
@@ -56,8 +56,8 @@ const DEFAULTS: &[(&[u32], &[(Register, Place)], &[Register])] = &rows! {
         ],
         &[]
     );
-    (&[0x00050050, 5, 0x02000068, 1, 0x0100003E], &[], &[]);
-    (&SMALLEST, &[], &[]);
+    (&[0x02000068, 1, 0x0100003E], &[], &[]);
+    (&[0x0400009B, 1, 1, 1, 0x0100003E], &[], &[]);
 };
 
 /// The map has these entries, in this order, and none of those registers.

@@ -1,11 +1,11 @@
 //! Programs that are read from words.
-use crate::reading::{SMALLEST, are_words, bytes_of, program, read_words, refusal};
+use crate::reading::{SMALLEST, are_words, bytes_of, read_words, refusal};
 use std::alloc::{AllocError, Global};
 use std::process::Abort;
 use std::test::Fail;
+use tpf_program::Select::{Bare, Mask, One, Swizzle};
 use tpf_program::{
-    Argument, Declaration, Declared, Instruction, Kind, Program, Select, ThreadGroup, ViewKind,
-    read_into,
+    Argument, Declaration, Declared, Instruction, Kind, Program, ThreadGroup, ViewKind, read_into,
 };
 use word_base::{Halt, Refusal, Rule, word_at};
 
@@ -42,117 +42,77 @@ const SWITCHES: [u32; 27] = [
     0x03000006, 0x00004001, 7, 0x01000017, 0x0100003E, 0x0100003E,
 ];
 
-/// An operand that is null, with nothing selected.
-const NULL: Argument = Argument {
-    kind: Kind::Null,
-    select: Select::Bare,
-    negate: false,
-    slot: 0,
-    index: 0,
-    relative: None,
-    x: 0,
-    y: 0,
-    z: 0,
-    w: 0,
-};
-
-/// r0.xy, where it is written.
-const MOVED: Argument = Argument {
-    kind: Kind::Temp,
-    select: Select::Mask(3),
-    ..NULL
-};
-
-/// r0.y, where it is read.
-const ADDED: Argument = Argument {
-    kind: Kind::Temp,
-    select: Select::One(1),
-    ..NULL
-};
-
-/// l(3, 4, 0, 0)
-const FOUR: Argument = Argument {
-    kind: Kind::Immediate,
-    select: Select::Swizzle(228),
-    x: 3,
-    y: 4,
-    ..NULL
-};
-
-/// l(5)
-const FIVE: Argument = Argument {
-    kind: Kind::Immediate,
-    x: 5,
-    y: 5,
-    z: 5,
-    w: 5,
-    ..NULL
-};
-
-/// Of a program: the words, and how many words, declarations and instructions it has.
-const SIZES: &[(&[u32], (u32, u32, u32))] = &rows! {
-    (&SMALLEST, (7, 1, 1));
-    (&SUM, (25, 3, 3));
-    (&PASSED, (18, 2, 2));
-    (&NULLS, (18, 1, 4));
-    (&VIEWS, (22, 4, 1));
-    (&SWITCHES, (27, 0, 11));
-};
-
-/// Of a program: the words, and the number, the place and the content of a declaration.
-const DECLARED: &[(&[u32], u32, u32, Declaration)] = &rows! {
-    (&SMALLEST, 0, 2, Declaration::Group { x: 1, y: 1, z: 1 });
-    (&SUM, 0, 2, Declaration::Flags(0x0800));
-    (&SUM, 1, 3, Declaration::Temps(1));
-    (&PASSED, 0, 5, Declaration::Group { x: 1, y: 2, z: 3 });
-    (&VIEWS, 0, 2, Declaration::Uav { slot: 2, view: ViewKind::Raw, coherent: true, ordered: false });
-    (&VIEWS, 1, 5, Declaration::Uav { slot: 3, view: ViewKind::Structured { stride: 8 }, coherent: true, ordered: true });
-    (&VIEWS, 2, 9, Declaration::ImmediateConstants { vectors: 1 });
-    (&VIEWS, 3, 15, Declaration::ImmediateConstants { vectors: 1 });
-};
-
-/// Of a program: the words, the number of an instruction, and its place, length, opcode, controls and count of operands.
-const HEADS: &[(&[u32], u32, (u32, u8, u32, u32, u8))] = &rows! {
-    (&SMALLEST, 0, (6, 1, 62, 0, 0));
-    (&SUM, 0, (9, 8, 54, 0, 2));
-    (&SUM, 1, (17, 7, 30, 0, 3));
-    (&SUM, 2, (24, 1, 62, 0, 0));
-    (&PASSED, 0, (11, 6, 54, 0, 2));
-    (&NULLS, 0, (6, 1, 58, 0, 0));
-    (&NULLS, 1, (7, 4, 54, 0, 2));
-};
-
-/// Of a program: the words, the number of an instruction, and of an operand with what it is.
-const OPERANDS: &[(&[u32], u32, u32, Argument)] = &rows! {
-    (&SUM, 0, 0, MOVED);
-    (&SUM, 0, 1, FOUR);
-    (&SUM, 0, 2, NULL);
-    (&SUM, 0, 3, NULL);
-    (&SUM, 0, 4, NULL);
-    (&SUM, 1, 2, ADDED);
-    (&PASSED, 0, 1, FIVE);
-    (&NULLS, 1, 0, NULL);
-    (&NULLS, 1, 1, FIVE);
-};
-
-/// The declaration with that number, if there is one.
-fn declaration(program: &Program, i: u32) -> Option<(u32, Declaration)> {
-    if i < program.declarations() {
-        let declared = program.declaration(i);
-        Some((declared.place, declared.what))
-    } else {
-        None
-    }
+/// An operand by its type, its selection and its words, and of the register 0.
+macro_rules! operand {
+    ($kind:ident $select:expr, $x:literal $y:literal $z:literal $w:literal) => {
+        Argument {
+            kind: Kind::$kind, select: $select, negate: false, slot: 0, index: 0, relative: None,
+            x: $x, y: $y, z: $z, w: $w,
+        }
+    };
 }
 
-/// The instruction with that number, if there is one.
-fn instruction(program: &Program, i: u32) -> Option<Instruction> {
-    if i < program.instructions() {
-        Some(program.instruction(i))
-    } else {
-        None
-    }
+/// What is known of a program.
+#[derive(Clone, Copy)]
+enum Fact {
+    /// How many words, declarations and instructions it has.
+    Sizes(u32, u32, u32),
+    /// The number and the place of a declaration, and what it declares.
+    Declares(u32, u32, Declaration),
+    /// The number of an instruction, its place, length, opcode, controls and count of operands.
+    Head(u32, u32, u8, u32, u32, u8),
+    /// The number of an instruction and of an operand of it, and what that is.
+    Operand(u32, u32, Argument),
+    /// The number of registers, and the threads.
+    Has(u32, ThreadGroup),
+    /// The words of constants, and one of them by its number.
+    Constant(u32, u32, u32),
+    /// The case before one with its value at its level, by their numbers.
+    Previous(u32, Option<u32>),
 }
+
+/// Programs, each with what is known of it.
+const FACTS: &[(&[u32], Fact)] = &rows! {
+    (&SMALLEST, Fact::Sizes(7, 1, 1));
+    (&SMALLEST, Fact::Declares(0, 2, Declaration::Group { x: 1, y: 1, z: 1 }));
+    (&SMALLEST, Fact::Head(0, 6, 1, 62, 0, 0));
+    (&SUM, Fact::Sizes(25, 3, 3));
+    (&SUM, Fact::Declares(0, 2, Declaration::Flags(0x0800)));
+    (&SUM, Fact::Declares(1, 3, Declaration::Temps(1)));
+    (&SUM, Fact::Head(0, 9, 8, 54, 0, 2));
+    (&SUM, Fact::Operand(0, 0, operand! { Temp Mask(3), 0 0 0 0 }));
+    (&SUM, Fact::Operand(0, 1, operand! { Immediate Swizzle(228), 3 4 0 0 }));
+    (&SUM, Fact::Operand(0, 2, operand! { Null Bare, 0 0 0 0 }));
+    (&SUM, Fact::Operand(0, 3, operand! { Null Bare, 0 0 0 0 }));
+    (&SUM, Fact::Operand(0, 4, operand! { Null Bare, 0 0 0 0 }));
+    (&SUM, Fact::Head(1, 17, 7, 30, 0, 3));
+    (&SUM, Fact::Operand(1, 2, operand! { Temp One(1), 0 0 0 0 }));
+    (&SUM, Fact::Head(2, 24, 1, 62, 0, 0));
+    (&PASSED, Fact::Sizes(18, 2, 2));
+    (&PASSED, Fact::Has(1, ThreadGroup { x: 1, y: 2, z: 3 }));
+    (&PASSED, Fact::Declares(0, 5, Declaration::Group { x: 1, y: 2, z: 3 }));
+    (&PASSED, Fact::Head(0, 11, 6, 54, 0, 2));
+    (&PASSED, Fact::Operand(0, 1, operand! { Immediate Bare, 5 5 5 5 }));
+    (&NULLS, Fact::Sizes(18, 1, 4));
+    (&NULLS, Fact::Head(0, 6, 1, 58, 0, 0));
+    (&NULLS, Fact::Head(1, 7, 4, 54, 0, 2));
+    (&NULLS, Fact::Operand(1, 0, operand! { Null Bare, 0 0 0 0 }));
+    (&NULLS, Fact::Operand(1, 1, operand! { Immediate Bare, 5 5 5 5 }));
+    (&VIEWS, Fact::Sizes(22, 4, 1));
+    (&VIEWS, Fact::Declares(0, 2, Declaration::Uav { slot: 2, view: ViewKind::Raw, coherent: true, ordered: false }));
+    (&VIEWS, Fact::Declares(1, 5, Declaration::Uav { slot: 3, view: ViewKind::Structured { stride: 8 }, coherent: true, ordered: true }));
+    (&VIEWS, Fact::Declares(2, 9, Declaration::ImmediateConstants { vectors: 1 }));
+    (&VIEWS, Fact::Declares(3, 15, Declaration::ImmediateConstants { vectors: 1 }));
+    (&VIEWS, Fact::Constant(8, 3, 4));
+    (&VIEWS, Fact::Constant(8, 4, 5));
+    (&SWITCHES, Fact::Sizes(27, 0, 11));
+    (&SWITCHES, Fact::Previous(1, None));
+    (&SWITCHES, Fact::Previous(3, None));
+    (&SWITCHES, Fact::Previous(4, None));
+    (&SWITCHES, Fact::Previous(6, None));
+    (&SWITCHES, Fact::Previous(7, Some(1)));
+    (&SWITCHES, Fact::Previous(8, None));
+};
 
 /// The operand with that number, at most 4, of an instruction.
 fn operand(instruction: &Instruction, k: u32) -> Argument {
@@ -173,111 +133,77 @@ fn sizes(program: &Program) -> (u32, u32, u32) {
     )
 }
 
+/// The place, length, opcode, controls and count of operands of an instruction.
+fn head(i: Instruction) -> (u32, u8, u32, u32, u8) {
+    (i.place, i.length, i.code, i.controls, i.count)
+}
+
+/// Whether a program has what is known of it.
+fn holds(program: &Program, fact: Fact) -> bool {
+    match fact {
+        Fact::Sizes(words, declarations, instructions) => sizes(program)
+            == (words, declarations, instructions),
+        Fact::Declares(i, place, what) => {
+            i < program.declarations() && program.declaration(i) == Declared { place, what }
+        }
+        Fact::Head(i, place, length, code, controls, count) => {
+            i < program.instructions()
+                && head(program.instruction(i)) == (place, length, code, controls, count)
+        }
+        Fact::Operand(i, k, want) => i < program.instructions()
+            && operand(&program.instruction(i), k) == want,
+        Fact::Has(temps, threads) => program.temps() == temps && program.threads() == threads,
+        Fact::Constant(words, i, word) => program.icb_words() == words
+            && i < words
+            && program.icb_word(i) == word,
+        Fact::Previous(i, before) => i < program.instructions()
+            && program.previous_case(i) == before,
+    }
+}
+
 #[test]
 fn programs_are_read(rt: HostRuntime) -> Result<(), Fail> {
-    for (words, want) in SIZES {
-        let program = program(&rt, rt.alloc(), words)?;
-        assert_eq!(rt; sizes(&program), *want, "{words:?}");
-    }
-    for (words, i, place, what) in DECLARED {
-        let program = program(&rt, rt.alloc(), words)?;
-        assert_eq!(rt;
-            declaration(&program, *i),
-            Some((*place, *what)),
-            "{words:?}"
-        );
+    for (i, (words, fact)) in FACTS.iter().enumerate() {
+        let program = read_words(&rt, rt.alloc(), words)??;
+        assert!(rt; holds(&program, *fact), "row {i}");
     }
     Ok(())
 }
 
-#[test]
-fn instructions_are_read(rt: HostRuntime) -> Result<(), Fail> {
-    for (words, i, want) in HEADS {
-        let program = program(&rt, rt.alloc(), words)?;
-        let head = instruction(&program, *i).map(|n| (
-            n.place, n.length, n.code, n.controls, n.count,
-        ));
-        assert_eq!(rt; head, Some(*want), "{words:?}");
-    }
-    for (words, i, k, want) in OPERANDS {
-        let program = program(&rt, rt.alloc(), words)?;
-        assert_eq!(rt;
-            instruction(&program, *i).map(|n| operand(&n, *k)),
-            Some(*want),
-            "{words:?}"
-        );
-    }
-    Ok(())
-}
-
-/// The registers and threads of a program, and the words of constants of another.
-#[test]
-fn programs_say_what_they_have(rt: HostRuntime) -> Result<(), Fail> {
-    let passed = program(&rt, rt.alloc(), &PASSED)?;
-    assert_eq!(rt;
-        (passed.temps(), passed.threads()),
-        (1, ThreadGroup { x: 1, y: 2, z: 3 })
-    );
-    let views = program(&rt, rt.alloc(), &VIEWS)?;
-    assert_eq!(rt; views.icb_words(), 8);
-    assert!(rt; 4 < views.icb_words());
-    assert_eq!(rt; (views.icb_word(3), views.icb_word(4)), (4, 5));
-    Ok(())
-}
-
-/// The case before one with its value at its level.
-#[test]
-fn finds_the_case_before(rt: HostRuntime) -> Result<(), Fail> {
-    let program = program(&rt, rt.alloc(), &SWITCHES)?;
-    for (i, before) in rows! {
-        (1, None);
-        (3, None);
-        (4, None);
-        (6, None);
-        (7, Some(1));
-        (8, None);
-    } {
-        assert!(rt; i < program.instructions());
-        assert_eq!(rt; program.previous_case(i), before);
-    }
-    Ok(())
-}
-
-/// What `read_into` answers of words.
+/// What `read_into` answers of words, and the room and the sizes then.
 fn read_words_into(
     rt: &impl Abort,
     alloc: Global,
     program: &mut Program,
     words: &[u32],
-) -> Result<Result<(), Refusal>, AllocError> {
+) -> Result<(Result<(), Refusal>, u32, (u32, u32, u32)), AllocError> {
     let bytes = bytes_of(alloc, &[], words)?;
     are_words(rt, bytes.as_slice());
     assert!(rt; word_at(bytes.as_slice(), 1) <= program.room());
-    Ok(read_into(program, bytes.as_slice()))
+    let answer = read_into(program, bytes.as_slice());
+    Ok((answer, program.room(), sizes(program)))
 }
 
 /// `SUM`, what is refused, since an immediate is a destination, and `SUM` again, into one program.
 fn is_read_into(rt: &impl Abort, alloc: Global, program: &mut Program) -> Result<(), AllocError> {
     let mut broken = SUM;
     broken[18] = 0x00004012;
-    assert_eq!(rt; (program.room(), sizes(program)), (64, (0, 0, 0)));
-    for (words, want, then) in rows! {
-        (SUM, Ok(()), (25, 3, 3));
-        (broken, Err(refusal(Rule::K7, 18)), (0, 0, 0));
-        (SUM, Ok(()), (25, 3, 3));
+    for (words, want) in rows! {
+        (SUM, (Ok(()), 64, (25, 3, 3)));
+        (broken, (Err(refusal(Rule::K7, 18)), 64, (0, 0, 0)));
+        (SUM, (Ok(()), 64, (25, 3, 3)));
     } {
         assert_eq!(rt; read_words_into(rt, alloc, program, &words)?, want);
-        assert_eq!(rt; (program.room(), sizes(program)), (64, then));
     }
-    assert_eq!(rt; instruction(program, 2).map(|i| i.code), Some(62));
+    assert!(rt; holds(program, Fact::Head(2, 24, 1, 62, 0, 0)));
     Ok(())
 }
 
 #[test]
 fn reads_into_one_program(rt: HostRuntime) -> Result<(), Fail> {
     let mut program = Program::make(rt.alloc(), 64)?;
-    is_read_into(&rt, rt.alloc(), &mut program)?;
-    Ok(())
+    assert_eq!(rt; (program.room(), sizes(&program)), (64, (0, 0, 0)));
+    Ok(is_read_into(&rt, rt.alloc(), &mut program)?)
 }
 
 /// The words are refused by this rule at this place.
@@ -318,12 +244,6 @@ const CUT_MOVES: &[(u32, u32, u32, u32, Rule, u32)] = &rows! {
     (15, 0x03000036, 0x1A, 0x0100003A, Rule::K2, 1);
 };
 
-/// A negated source of a move.
-const NEGATED: [u32; 15] = [
-    0x00050050, 15, 0x02000068, 1, 0x0400009B, 1, 1, 1, 0x06000036, 0x00100012, 0, 0x8010001A,
-    0x00000041, 0, 0x0100003E,
-];
-
 /// A straight line with a wrong opcode in place of `mov`, in front of a store.
 const WRONG_MOVE: [u32; 36] = [
     0x00050050, 36, 0x0100086A, 0x02000068, 1, 0x0400009F, 0x0011F000, 0, 8, 0x0400009B, 1, 1, 1,
@@ -333,7 +253,8 @@ const WRONG_MOVE: [u32; 36] = [
 
 /// Words, and the rule with its place that refuses them.
 const BROKEN: &[(&[u32], Rule, u32)] = &rows! {
-    (&NEGATED, Rule::K10, 12);
+    // A negated source of a move.
+    (&[0x00050050, 15, 0x02000068, 1, 0x0400009B, 1, 1, 1, 0x06000036, 0x00100012, 0, 0x8010001A, 65, 0, 0x0100003E], Rule::K10, 12);
     (&[0x00050050, 7, 0x0400009B, 1, 1, 1, 0x0200003E], Rule::K3, 6); // a last word that is too long
     (&[0x00050050, 7, 0x0400009B, 1, 1, 1, 0x01000000], Rule::K4, 6); // or of an opcode outside the profile
     (&WRONG_MOVE, Rule::K4, 13);

@@ -42,7 +42,13 @@ pub(crate) fn read_words(
     Ok(read(alloc, bytes.as_slice()))
 }
 
-/// The program of these words.
+/// The program of these words behind a head.
 pub(crate) fn program(rt: &impl Abort, alloc: Global, words: &[u32]) -> Result<Program, Fail> {
-    Ok(read_words(rt, alloc, words)??)
+    let bytes = bytes_of(
+        alloc,
+        &[0x00050050, (words.len().min(250) + 2) as u32],
+        words,
+    )?;
+    are_words(rt, bytes.as_slice());
+    Ok(read(alloc, bytes.as_slice())?)
 }

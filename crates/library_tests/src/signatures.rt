@@ -1,7 +1,5 @@
 //! What the root signature of a container covers.
-ghost use Rattle.std.specs.Prelude.{◌≤◌, length};
-
-use crate::reading::refusal;
+use crate::reading::{bytes_of, refusal};
 use root_signature::{Covers, RootSignature, parse};
 use std::alloc::Global;
 use std::test::Fail;
@@ -15,20 +13,6 @@ const SHEX: u32 = 0x58454853;
 /// The last register, or word.
 const LAST: u32 = 0xFFFFFFFF;
 
-/// A container whose one chunk has the tag and these words, at most 64.
-fn file(tag: u32, words: &[u32]) -> [u8; 300] {
-    let words = &words[..words.len().min(64)];
-    let size = 4 * words.len() as u32;
-    let head = [0x43425844, 0, 0, 0, 0, 1, 44 + size, 1, 36, tag, size];
-    let mut bytes = [0; 300];
-    for (i, word) in head.iter().chain(words).enumerate() {
-        if i < 75 {
-            bytes[4 * i..4 * i + 4].copy_from_slice(&word.to_le_bytes());
-        }
-    }
-    bytes
-}
-
 /// Whether the entries are these.
 fn is_same(signature: &RootSignature, entries: &[Covers]) -> bool {
     let mut same = signature.len() as usize == entries.len();
@@ -38,17 +22,20 @@ fn is_same(signature: &RootSignature, entries: &[Covers]) -> bool {
     same
 }
 
-/// Whether the words of a chunk with the tag cover these entries; or the first rule that they break, with its place.
+/// Whether the words of a container's one chunk, with the tag, cover these entries; or the first rule that they break.
 fn covers(
     alloc: Global,
     tag: u32,
     words: &[u32],
     entries: &[Covers],
-) -> Result<Result<bool, Refusal>, NoMemory> {
-    match parse(alloc, &file(tag, words)) {
+) -> Result<Result<bool, Refusal>, Fail> {
+    let size = 4 * words.len().min(64) as u32;
+    let head = [0x43425844, 0, 0, 0, 0, 1, 44 + size, 1, 36, tag, size];
+    let bytes = bytes_of(alloc, &head, words)?;
+    match parse(alloc, &bytes[..bytes.len().min(300)]) {
         Ok(signature) => Ok(Ok(is_same(&signature, entries))),
         Err(Halt::Refused(refusal)) => Ok(Err(refusal)),
-        Err(Halt::NoMemory) => Err(NoMemory),
+        Err(Halt::NoMemory) => Err(NoMemory.into()),
     }
 }
 
@@ -116,15 +103,8 @@ const BROKEN: &[(&[u32], Rule, u32)] = &rows! {
     (&[1, 2, 24, 0, 0, 0, 0, 0, 48, 3, 0, 56, 2, 64, 0, 0, 9, 1, 0, 0, 0, 0, 1, 0, 0, 0], Rule::G4, 56);
 };
 
-/// Words of `THREE` that are others, each by its place, and the rule that is broken then, with its place.
-const OTHERS: &[(usize, u32, Rule, u32)] = &rows! {
-    (0, 3, Rule::G1, 0);
-    (17, 65, Rule::G5, 60);
-    (2, 0xFFFFFFFC, Rule::G2, 4294967292);
-};
-
 #[test]
-fn entries_stand_in_the_order_of_covering(rt: HostRuntime) -> Result<(), Fail> {
+fn signatures_are_read_or_refused(rt: HostRuntime) -> Result<(), Fail> {
     for (words, entries) in COVERED {
         assert_eq!(rt;
             covers(rt.alloc(), RTS0, words, entries)?,
@@ -132,27 +112,21 @@ fn entries_stand_in_the_order_of_covering(rt: HostRuntime) -> Result<(), Fail> {
             "{words:?}"
         );
     }
-    Ok(())
-}
-
-#[test]
-fn broken_signatures_are_refused(rt: HostRuntime) -> Result<(), Fail> {
     for (words, rule, place) in BROKEN {
-        assert_eq!(rt;
-            covers(rt.alloc(), RTS0, words, &[])?,
-            Err(refusal(*rule, *place)),
-            "{words:?}"
-        );
+        let want = Err(refusal(*rule, *place));
+        assert_eq!(rt; covers(rt.alloc(), RTS0, words, &[])?, want, "{words:?}");
     }
-    for (i, word, rule, place) in OTHERS {
+    for (i, word, rule, place) in rows! {
+        (0, 3, Rule::G1, 0);
+        (17, 65, Rule::G5, 60);
+        (2, 0xFFFFFFFC, Rule::G2, 4294967292);
+    } {
         let mut words = THREE;
-        assert!(rt; *i < 29);
-        words[*i] = *word;
-        assert_eq!(rt;
-            covers(rt.alloc(), RTS0, &words, &[])?,
-            Err(refusal(*rule, *place)),
-            "{words:?}"
-        );
+        if i < 29 {
+            words[i] = word;
+        }
+        let want = Err(refusal(rule, place));
+        assert_eq!(rt; covers(rt.alloc(), RTS0, &words, &[])?, want, "{words:?}");
     }
     let missing = Err(refusal(Rule::G6, 0));
     assert_eq!(rt;

@@ -6,24 +6,13 @@ use spirv_words::Version;
 use std::alloc::{AllocError, Global};
 use std::process::Abort;
 use std::test::Fail;
-use translator::{ModuleView, Workspace, translate};
+use translator::{Workspace, translate};
 use word_base::{NoMemory, Refusal, Rule};
 
 /// `mov r0.x, -r0.y`, where no modifier may stand.
 const NEGATED_MOVE: [u32; 15] = [
     0x00050050, 15, 0x02000068, 1, 0x0400009B, 1, 1, 1, 0x06000036, 0x00100012, 0, 0x8010001A, 65,
     0, 0x0100003E,
-];
-
-/// A constant buffer `cb0` that no instruction uses.
-const BUFFER: [u32; 11] = [
-    0x00050050, 11, 0x04000059, 0x00208E46, 0, 1, 0x0400009B, 1, 1, 1, 0x0100003E,
-];
-
-/// `store_raw u0.x, l(0), l(7)`.
-const STORE: [u32; 17] = [
-    0x00050050, 17, 0x0300009D, 0x0011E000, 0, 0x0400009B, 1, 1, 1, 0x070000A6, 0x0011E012, 0,
-    0x00004001, 0, 0x00004001, 7, 0x0100003E,
 ];
 
 /// The map of a text without a broken rule.
@@ -34,15 +23,6 @@ fn map(alloc: Global, text: &[u8]) -> Result<Bindings, NoMemory> {
 /// The container of a program of a few words.
 fn container(alloc: Global, tokens: &[u32]) -> Result<Vec<u8>, NoMemory> {
     build(alloc, &tokens[..tokens.len().min(100)])
-}
-
-/// The words of a module.
-fn words_of(alloc: Global, view: &ModuleView) -> Result<Vec<u32>, AllocError> {
-    let mut words = Vec::new(alloc);
-    for i in 0..view.len() {
-        words.push(view.word(i))?;
-    }
-    Ok(words)
 }
 
 /// The words of the module of a container, or its first broken rule with no words.
@@ -59,14 +39,20 @@ fn outcome_of(
     bytes: &[u8],
     version: Version,
 ) -> Result<Outcome, AllocError> {
+    let mut words = Vec::new(alloc);
     match translate(work, &bytes[..bytes.len().min(1000)], map, version) {
-        Ok(view) => Ok(Outcome {
-            words: words_of(alloc, &view)?,
-            broken: None,
-        }),
-        Err(broken) => Ok(Outcome {
-            words: Vec::new(alloc),
-            broken: Some(broken),
+        Ok(view) => {
+            for i in 0..view.len() {
+                words.push(view.word(i))?;
+            }
+            Ok(Outcome {
+                words,
+                broken: None,
+            })
+        }
+        Err(refusal) => Ok(Outcome {
+            words,
+            broken: Some(refusal),
         }),
     }
 }
@@ -104,9 +90,11 @@ const BROKEN: &[(&[u32], u32, &[u8], Option<(Rule, u32)>)] = &rows! {
     (&SMALLEST, 7, b"", None);
     (&SMALLEST, 6, b"", Some((Rule::M4, 1)));
     (&NEGATED_MOVE, 15, b"", Some((Rule::K10, 12)));
-    (&BUFFER, 11, b"", Some((Rule::B1, 2)));
-    (&BUFFER, 11, b"cb0 0 0\n", None);
-    (&STORE, 17, b"", None);
+    // A constant buffer `cb0` that no instruction uses.
+    (&[0x00050050, 11, 0x04000059, 0x00208E46, 0, 1, 0x0400009B, 1, 1, 1, 0x0100003E], 11, b"", Some((Rule::B1, 2)));
+    (&[0x00050050, 11, 0x04000059, 0x00208E46, 0, 1, 0x0400009B, 1, 1, 1, 0x0100003E], 11, b"cb0 0 0\n", None);
+    // `store_raw u0.x, l(0), l(7)`.
+    (&[0x00050050, 17, 0x0300009D, 0x0011E000, 0, 0x0400009B, 1, 1, 1, 0x070000A6, 0x0011E012, 0, 0x00004001, 0, 0x00004001, 7, 0x0100003E], 17, b"", None);
 };
 
 #[test]
