@@ -28,6 +28,3 @@ pub use register::{Place, Register};
 pub use root::from_root;
 pub use text::from_text;
 pub use wanted::push_words;
-
-#[cfg(test)]
-mod tests;

@@ -12,5 +12,3 @@ mod values;
 pub use command::{BindingChoice, Command, read_words};
 pub use laws::usage_laws;
 
-#[cfg(test)]
-mod tests;

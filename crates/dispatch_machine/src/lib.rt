@@ -16,8 +16,6 @@ mod driver;
 mod example;
 mod lane;
 mod laws;
-#[cfg(test)]
-mod tests;
 
 pub use driver::{Driven, Stepped, Stepwise, drive};
 pub use example::{WordLane, word_lane};

@@ -6,8 +6,6 @@
 
 mod part;
 mod reader;
-#[cfg(test)]
-mod tests;
 mod writer;
 
 pub use part::{Slice, Tagged};

@@ -10,8 +10,6 @@ mod kept;
 mod laws;
 mod numbers;
 mod shelf;
-#[cfg(test)]
-mod tests;
 mod word;
 
 pub use kept::Kept;

@@ -10,8 +10,6 @@ macro_rules! rows {
 #[cfg(test)]
 mod arithmetic;
 #[cfg(test)]
-mod blocks;
-#[cfg(test)]
 mod checks;
 #[cfg(test)]
 mod commands;
@@ -39,5 +37,3 @@ mod signatures;
 mod symbols;
 #[cfg(test)]
 mod tokens;
-#[cfg(test)]
-mod translation;

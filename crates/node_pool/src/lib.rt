@@ -11,8 +11,6 @@ mod key_tree;
 mod keys;
 mod pool;
 mod region;
-#[cfg(test)]
-mod tests;
 
 pub use key::Key;
 pub use keys::Keys;

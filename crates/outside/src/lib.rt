@@ -31,5 +31,3 @@ pub use sink::{Failed, Sink};
 pub use system::{FileDesk, StdSink};
 pub use words::Words;
 
-#[cfg(test)]
-mod tests;

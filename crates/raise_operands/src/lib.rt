@@ -13,8 +13,6 @@ mod laws;
 mod operand;
 mod operands;
 mod statement;
-#[cfg(test)]
-mod tests;
 mod value;
 mod vector;
 

@@ -16,8 +16,6 @@ mod reader;
 mod refusals;
 mod runs;
 mod signature;
-#[cfg(test)]
-mod tests;
 
 pub use covers::Covers;
 pub use laws::signature_laws;

@@ -20,6 +20,3 @@ mod uses;
 
 pub use checked::check;
 pub use laws::{checked_laws, statement_laws};
-
-#[cfg(test)]
-mod tests;

@@ -13,8 +13,6 @@
 
 mod laws;
 mod node;
-#[cfg(test)]
-mod tests;
 mod tree;
 
 pub use laws::{chain_laws, cost_laws, node_laws, plan_laws, step_laws, value_laws, word_laws};

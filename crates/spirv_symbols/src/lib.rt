@@ -19,8 +19,6 @@ mod row;
 mod sorting;
 mod symbol;
 mod table;
-#[cfg(test)]
-mod tests;
 
 pub use ascending::Ascending;
 pub use context::Context;

@@ -23,18 +23,3 @@ pub fn put(out: &mut Vec<u32>, op: u32, operands: &[u32]) -> Result<(), NoMemory
     out.push(65536 * words as u32 + op).map_err(|_| NoMemory)?;
     out.extend_from_slice(operands).map_err(|_| NoMemory)
 }
-
-#[cfg(test)]
-mod tests {
-    use super::*;
-    use crate::op;
-    use std::test::Fail;
-
-    #[test]
-    fn writes_a_sum_behind_the_words(rt: HostRuntime) -> Result<(), Fail> {
-        let mut out = Vec::from_slice(rt.alloc(), &[7u32])?;
-        put(&mut out, op::I_ADD, &[5, 8, 6, 7])?;
-        assert_eq!(rt; out.as_slice(), [7u32, 0x0005_0080, 5, 8, 6, 7].as_slice());
-        Ok(())
-    }
-}

@@ -30,5 +30,3 @@ pub use opcode::{Form, instruction_form};
 pub use reading::{operand, operand_laws};
 pub use role::has_role;
 
-#[cfg(test)]
-mod tests;

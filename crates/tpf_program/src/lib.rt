@@ -30,6 +30,3 @@ pub use program::Program;
 pub use reader::{read, read_into};
 pub use spelling::spelled_laws;
 pub use tpf_decode::{Argument, Kind, Relative, Select};
-
-#[cfg(test)]
-mod tests;

@@ -11,8 +11,6 @@ mod arithmetic;
 mod event;
 mod laws;
 pub mod rule;
-#[cfg(test)]
-mod tests;
 mod word;
 
 pub use arithmetic::{

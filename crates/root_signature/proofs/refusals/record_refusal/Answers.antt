@@ -21,5 +21,6 @@ returns-then-there-words c =
 
       known : 0 < words_from c.args.content.now c.args.at → word c.args.content.now c.args.at ≤ c.args.last
       known h = elim c.else-there-gt0.branch [
-        else-there-gt0-via-then-there-gt0+else-word-last w ↦ omega (arith, w.if-word-last, w.word.ensures)
-        | else-there-gt0-via-else-there-gt0 w ↦ absurd (omega (arith, h, w.if-there-gt0, c.words_from-there.ensures.count)) ]
+        | else-there-gt0-via-then-there-gt0+else-word-last w ↦ omega (arith, w.if-word-last, w.word.ensures)
+        | else-there-gt0-via-else-there-gt0 w ↦ absurd (omega (arith, h, w.if-there-gt0, c.words_from-there.ensures.count))
+      ]
