@@ -11,4 +11,3 @@ mod values;
 
 pub use command::{BindingChoice, Command, read_words};
 pub use laws::usage_laws;
-

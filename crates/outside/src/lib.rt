@@ -30,4 +30,3 @@ pub use quiet::{QuietDesk, QuietSink};
 pub use sink::{Failed, Sink};
 pub use system::{FileDesk, StdSink};
 pub use words::Words;
-

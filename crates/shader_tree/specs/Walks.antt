@@ -46,7 +46,6 @@ gathered f t = folded (λ xs ys. xs ++ ys) f t
 abbrev pub holds_no : (Term → Bool) → Term → Bool
 holds_no test t = folded (λ a b. a && b) (λ x. not (test x)) t
 
-
 -- WHAT A TERM NAMES: scratch words that are read, thread ids, the spaces that are read or written, those that are
 -- written, the rooms, and those that are changed.
 abbrev pub scratch_at : Term → List ℕ

@@ -29,4 +29,3 @@ pub use meaning::{Meaning, instruction_meaning};
 pub use opcode::{Form, instruction_form};
 pub use reading::{operand, operand_laws};
 pub use role::has_role;
-
