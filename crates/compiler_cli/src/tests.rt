@@ -70,8 +70,10 @@ fn words(alloc: Global, line: &str) -> Result<Words, AllocError> {
 
 /// The numbers of failing calls: one, or none for 0.
 fn failing(alloc: Global, call: u64) -> Result<Vec<u64>, NoMemory> {
-    let numbers: &[u64] = if call > 0 { &[call] } else { &[] };
-    Vec::from_slice(alloc, numbers).map_err(|_| NoMemory)
+    match call {
+        0 => Ok(Vec::new(alloc)),
+        _ => Vec::from_slice(alloc, &[call]).map_err(|_| NoMemory),
+    }
 }
 
 /// A sink for so many bytes.
@@ -114,15 +116,15 @@ fn passes(alloc: Global, files: [&[u8]; 2], case: Case, row: &Row) -> Result<boo
     leaves(alloc, &mut desk, case, row)
 }
 
-/// How many runs of a row leave something else.
-fn failed(alloc: Global, files: [&[u8]; 2], row: &Row) -> Result<u64, NoMemory> {
-    let mut failed = 0u64;
+/// Whether all runs of a row do.
+fn all_pass(alloc: Global, files: [&[u8]; 2], row: &Row) -> Result<bool, NoMemory> {
+    let mut all = true;
     for line in row.0 {
         for calls in row.1 {
-            failed += u64::from(!passes(alloc, files, (line, *calls), row)?);
+            all = passes(alloc, files, (line, *calls), row)? && all;
         }
     }
-    Ok(failed)
+    Ok(all)
 }
 
 /// A program by the words behind its head, so many times each, and the bytes that its container has at a place instead.
@@ -147,13 +149,19 @@ fn change(bytes: &mut [u8], place: usize, new: &[u8]) {
 }
 
 /// The container of an input.
-fn container(alloc: Global, input: Input) -> Result<Vec<u8>, NoMemory> {
+fn container(alloc: Global, input: &Input) -> Result<Vec<u8>, NoMemory> {
     let tokens = tokens(alloc, input.0).map_err(|_| NoMemory)?;
     let size = tokens.len().min(100_000);
     let mut bytes = build(alloc, &tokens[..size])?;
     change(&mut bytes, 48, &(size as u32).to_le_bytes());
     change(&mut bytes, input.1, input.2);
     Ok(bytes)
+}
+
+/// Whether all runs of a row over an input and a text do.
+fn all_pass_over(alloc: Global, input: &Input, text: &str, row: &Row) -> Result<bool, NoMemory> {
+    let bytes = container(alloc, input)?;
+    all_pass(alloc, [&bytes, text.as_bytes()], row)
 }
 
 /// A group of one lane, and `ret`.
@@ -228,8 +236,11 @@ fn cases(rt: HostRuntime) -> Result<(), Fail> {
         ((&[(&[0x0400009F, 0x0011F000, 0, 4, 0x0400009B, 1, 1, 1], 1), (&[0x070000A6, 0x0011F012, 0, 0x4001, 0, 0x4001, 1], 9360), (&[0x0100003A], 6), (&[0x0100003E], 1)], 0, b""), "", ruled(&[""], "M2 at 1: program too long"));
     };
     for (input, text, row) in &tables {
-        let bytes = container(rt.alloc(), *input)?;
-        assert_eq!(rt; failed(rt.alloc(), [&bytes, text.as_bytes()], row)?, 0);
+        assert!(rt;
+            all_pass_over(rt.alloc(), input, text, row)?,
+            "{text} {}",
+            row.4
+        );
     }
     Ok(())
 }
@@ -239,14 +250,14 @@ fn cases(rt: HostRuntime) -> Result<(), Fail> {
 fn too_long(rt: HostRuntime) -> Result<(), Fail> {
     let bytes = vec![in rt.alloc(); 0; 16_777_217]?;
     let row = ruled(&[""], "M1 at 16777216: file too large");
-    assert_eq!(rt; failed(rt.alloc(), [&bytes, b""], &row)?, 0);
+    assert!(rt; all_pass(rt.alloc(), [&bytes, b""], &row)?, "{}", row.4);
     Ok(())
 }
 
 /// A container of a root signature, of two root constants for cb0, a table with t0, and u0, with bytes changed.
 #[test]
 fn signatures(rt: HostRuntime) -> Result<(), Fail> {
-    let input = container(rt.alloc(), STORE)?;
+    let input = container(rt.alloc(), &STORE)?;
     let words = [
         2, 3, 24, 0, 0, 0, 1, 0, 60, 0, 0, 72, 4, 0, 104, 0, 0, 2, 1, 80, 0, 1, 0, 0, 0, 0, 0, 0, 0,
     ];
@@ -262,7 +273,7 @@ fn signatures(rt: HostRuntime) -> Result<(), Fail> {
         change(&mut file, 36, b"RTS0");
         change(&mut file, *place, new);
         let row = ruled(&["--root-signature b"], rule);
-        assert_eq!(rt; failed(rt.alloc(), [&input, &file], &row)?, 0);
+        assert!(rt; all_pass(rt.alloc(), [&input, &file], &row)?, "{}", row.4);
     }
     Ok(())
 }
@@ -306,7 +317,7 @@ fn one_byte_a_call(rt: HostRuntime) -> Result<(), Fail> {
     let (alloc, mut out, mut err) = (rt.alloc(), QuietSink::make(), QuietSink::make());
     let desk = MemoryDesk::make(alloc, 1, 10_000, Vec::new(alloc))?;
     let mut slow = SlowDesk { desk };
-    put(&mut slow.desk, [&container(alloc, STORE)?, b""])?;
+    put(&mut slow.desk, [&container(alloc, &STORE)?, b""])?;
     let status = run(alloc, &words(alloc, "-o m")?, &mut slow, &mut out, &mut err);
     assert_eq!(rt; status, Status::Ok);
     assert!(rt; fits(first_output(&slow.desk), MODULE));
