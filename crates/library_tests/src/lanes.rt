@@ -53,21 +53,24 @@ fn broken(place: u32) -> Next {
 fn next_by_its_fuel(rt: HostRuntime) {
     let mut it = word_lane(&[1, 2, 1000, 1001, 5, 6, 1000]);
     assert_eq!(rt; it.steps(), 0);
-    for (fuel, want) in rows! {
-        (1, (Next::Spinning, 1));
-        (1, (Next::Spinning, 1));
-        (1, (store(3), 0));
-        (1, (load(), 0));
-        (2, (Next::Spinning, 2));
-        (2, (store(51), 0));
-        (1, (Next::Ended, 0));
-        (9, (Next::Ended, 0));
+    for (got, want) in rows! {
+        (call(&mut it, 1), (Next::Spinning, 1));
+        (call(&mut it, 1), (Next::Spinning, 1));
+        (call(&mut it, 1), (store(3), 0));
+        (call(&mut it, 1), (load(), 0));
+        (call(&mut it, 2), (Next::Spinning, 2));
+        (call(&mut it, 2), (store(51), 0));
+        (call(&mut it, 1), (Next::Ended, 0));
+        (call(&mut it, 9), (Next::Ended, 0));
     } {
-        assert!(rt; 0 < fuel);
-        assert_eq!(rt; call(&mut it, fuel), want);
+        assert_eq!(rt; got, want);
     }
     let mut it = word_lane(&[1, 2, 1000, 7, 2000]);
-    for want in [(store(3), 2), (broken(4), 1), (broken(4), 0)] {
-        assert_eq!(rt; call(&mut it, 3), want);
+    for (got, want) in rows! {
+        (call(&mut it, 3), (store(3), 2));
+        (call(&mut it, 3), (broken(4), 1));
+        (call(&mut it, 3), (broken(4), 0));
+    } {
+        assert_eq!(rt; got, want);
     }
 }

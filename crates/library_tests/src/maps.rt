@@ -3,7 +3,6 @@ use crate::reading::{bytes_of, program};
 use binding_map::{Bindings, Place, Register, complete, from_default, from_root, from_text};
 use root_signature::{RootSignature, parse};
 use std::alloc::Global;
-use std::process::Abort;
 use std::test::Fail;
 use tpf_program::Program;
 use word_base::{Halt, NoMemory, Rule};
@@ -48,50 +47,47 @@ macro_rules! at {
 /// Programs, with the entries of their default maps and with registers that these do not have.
 const DEFAULTS: &[(&[u32], &[(Register, Place)], &[Register])] = &rows! {
     (&COUNTED, &[at!(Uav 0, 0 0), at!(Uav 1, 0 1), at!(Counter 0, 0 2)], &[Register::Counter(1), Register::Resource(0)]);
-    (
-        &LAST_SLOTS,
-        &[
-            at!(Constant 2, 0 0), at!(Constant 13, 0 1), at!(Resource 0, 0 2), at!(Resource 127, 0 3), at!(Uav 63, 0 4),
-            at!(Counter 63, 0 5),
-        ],
-        &[]
-    );
+    (&LAST_SLOTS, &[
+        at!(Constant 2, 0 0), at!(Constant 13, 0 1), at!(Resource 0, 0 2), at!(Resource 127, 0 3), at!(Uav 63, 0 4), at!(Counter 63, 0 5),
+    ], &[]);
     (&[0x02000068, 1, 0x0100003E], &[], &[]);
     (&[0x0400009B, 1, 1, 1, 0x0100003E], &[], &[]);
 };
 
-/// The map has these entries, in this order, and none of those registers.
-fn has(rt: &impl Abort, bindings: &Bindings, entries: &[(Register, Place)], missing: &[Register]) {
-    assert_eq!(rt; bindings.len() as usize, entries.len());
+/// Whether the map has these entries, in this order, and none of those registers.
+fn is_map(bindings: &Bindings, entries: &[(Register, Place)], missing: &[Register]) -> bool {
+    let mut same = bindings.len() as usize == entries.len();
     for (i, entry) in entries.iter().enumerate() {
-        assert!(rt; i < bindings.len() as usize);
-        assert_eq!(rt; bindings.at(i as u32), *entry);
-        assert_eq!(rt; bindings.place_of(entry.0), Some(entry.1));
+        same = same
+            && i < bindings.len() as usize
+            && bindings.at(i as u32) == *entry
+            && bindings.place_of(entry.0) == Some(entry.1);
     }
     for register in missing {
-        assert_eq!(rt; bindings.place_of(*register), None);
+        same = same && bindings.place_of(*register).is_none();
     }
+    same
 }
 
-/// The default map of a program has these entries, none of those registers, and all that it must have.
-fn has_default(
-    rt: &impl Abort,
+/// Whether the default map of a program has these entries, none of those registers, and all that it must have.
+fn is_default(
     alloc: Global,
     program: &Program,
     entries: &[(Register, Place)],
     missing: &[Register],
-) -> Result<(), NoMemory> {
+) -> Result<bool, NoMemory> {
     let bindings = from_default(alloc, program)?;
-    has(rt, &bindings, entries, missing);
-    assert_eq!(rt; complete(program, &bindings), Ok(()));
-    Ok(())
+    Ok(is_map(&bindings, entries, missing) && complete(program, &bindings).is_ok())
 }
 
 #[test]
 fn default_maps_number_registers(rt: HostRuntime) -> Result<(), Fail> {
     for (words, entries, missing) in DEFAULTS {
         let program = program(&rt, rt.alloc(), words)?;
-        has_default(&rt, rt.alloc(), &program, entries, missing)?;
+        assert!(rt;
+            is_default(rt.alloc(), &program, entries, missing)?,
+            "{words:?}"
+        );
     }
     Ok(())
 }
@@ -130,14 +126,9 @@ const TEXTS: &[(&[u8], Option<Rule>, u32)] = &rows! {
     (b"u+1 0 0", Some(Rule::B3), 1);
 };
 
-fn text(rt: &impl Abort, alloc: Global, bytes: &[u8]) -> Result<Bindings, Halt> {
-    assert!(rt; bytes.len() <= 1000);
-    from_text(alloc, bytes)
-}
-
 /// The rule that a text breaks, at a line; and where it breaks none, how many entries there are.
-fn broken(rt: &impl Abort, alloc: Global, bytes: &[u8]) -> (Option<Rule>, u32) {
-    match text(rt, alloc, bytes) {
+fn broken(alloc: Global, bytes: &[u8]) -> (Option<Rule>, u32) {
+    match from_text(alloc, &bytes[..bytes.len().min(1000)]) {
         Ok(bindings) => (None, bindings.len()),
         Err(Halt::Refused(refusal)) => (Some(refusal.rule), refusal.place),
         Err(Halt::NoMemory) => (None, 999),
@@ -147,52 +138,43 @@ fn broken(rt: &impl Abort, alloc: Global, bytes: &[u8]) -> (Option<Rule>, u32) {
 #[test]
 fn texts_give_maps(rt: HostRuntime) -> Result<(), Fail> {
     for (bytes, rule, place) in TEXTS {
-        assert_eq!(rt;
-            broken(&rt, rt.alloc(), bytes),
-            (*rule, *place),
-            "{bytes:?}"
-        );
+        assert_eq!(rt; broken(rt.alloc(), bytes), (*rule, *place), "{bytes:?}");
     }
-    let lines = b"counter7 7 9\ncb2 push 3 61\ncb1 0 0\nt100 0 1\n";
-    let entries = [
-        at!(Counter 7, 7 9),
-        at!(Constant 2, push 3 61),
-        at!(Constant 1, 0 0),
-        at!(Resource 100, 0 1),
-    ];
-    has(&rt, &text(&rt, rt.alloc(), lines)?, &entries, &[]);
+    let bindings = from_text(
+        rt.alloc(),
+        b"counter7 7 9\ncb2 push 3 61\ncb1 0 0\nt100 0 1\n",
+    )?;
+    let entries = rows! {
+        at!(Counter 7, 7 9);
+        at!(Constant 2, push 3 61);
+        at!(Constant 1, 0 0);
+        at!(Resource 100, 0 1);
+    };
+    assert!(rt; is_map(&bindings, &entries, &[]));
     Ok(())
 }
 
-/// The root signature of these words.
-fn root(rt: &impl Abort, alloc: Global, words: &[u32]) -> Result<RootSignature, Fail> {
-    let bytes = bytes_of(alloc, &[], words)?;
-    assert!(rt; bytes.len() <= 1000);
-    Ok(parse(alloc, bytes.as_slice())?)
-}
-
-/// The map of a root signature for a program has these entries.
-fn has_root(
-    rt: &impl Abort,
+/// Whether the map of a root signature for a program has these entries.
+fn is_root(
     alloc: Global,
     root: &RootSignature,
     program: &Program,
     entries: &[(Register, Place)],
-) -> Result<(), NoMemory> {
+) -> Result<bool, NoMemory> {
     let bindings = from_root(alloc, root, program)?;
-    has(rt, &bindings, entries, &[]);
-    Ok(())
+    Ok(is_map(&bindings, entries, &[]))
 }
 
 #[test]
 fn root_signatures_give_maps(rt: HostRuntime) -> Result<(), Fail> {
     let program = program(&rt, rt.alloc(), &HISTOGRAM)?;
-    let root = root(&rt, rt.alloc(), &SIGNATURE)?;
+    let bytes = bytes_of(rt.alloc(), &[], &SIGNATURE)?;
+    let root = parse(rt.alloc(), &bytes[..bytes.len().min(1000)])?;
     let entries = [
         at!(Constant 0, push 0 2),
         at!(Resource 0, 0 0),
         at!(Uav 0, 0 1),
     ];
-    has_root(&rt, rt.alloc(), &root, &program, &entries)?;
+    assert!(rt; is_root(rt.alloc(), &root, &program, &entries)?);
     Ok(())
 }

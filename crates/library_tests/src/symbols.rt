@@ -7,7 +7,6 @@ ghost use Rattle.spirv_symbols.specs.Tables.{Stands, empty_table, weight};
 
 use node_pool::Pool;
 use spirv_symbols::{Ascending, Context, Declared, Section, Symbol, Symbols};
-use std::process::Abort;
 use std::test::Fail;
 use word_base::Room;
 
@@ -43,15 +42,6 @@ fn put_front(symbols: &Symbols, context: &Context, ascending: &mut Ascending, wo
     symbols.put_section(context, Section::Declarations, words);
 }
 
-/// A constant of a list, and 0 behind its end.
-fn constant_at(ascending: &Ascending, i: u32) -> u32 {
-    if i < ascending.len() {
-        ascending.at(i).word
-    } else {
-        0
-    }
-}
-
 /// Whether these are the words.
 fn are_words(words: &Pool<u32>, expected: &[u32]) -> bool {
     let mut same = words.len() as usize == expected.len();
@@ -61,21 +51,18 @@ fn are_words(words: &Pool<u32>, expected: &[u32]) -> bool {
     same
 }
 
-/// Constants that come falling have ids in their order.
-fn falls(rt: &impl Abort, context: &Context, symbols: &mut Symbols)
+/// The ids of constants that come falling, and one of them again.
+fn falling(context: &Context, symbols: &mut Symbols) -> [u32; 5]
     requires stands { Stands context.now symbols.old }
     ensures stands { Stands context.now symbols.new }
     ensures limit { symbols.new.limit ≡ symbols.old.limit }
 {
-    for (word, id) in rows! {
-        (0x8000_0000, 2);
-        (9, 3);
-        (4, 4);
-        (9, 3);
-        (0, 5);
-    } {
-        assert_eq!(rt; id_of(symbols, context, Symbol::Constant(word)), id);
-    }
+    let first = id_of(symbols, context, Symbol::Constant(0x8000_0000));
+    let second = id_of(symbols, context, Symbol::Constant(9));
+    let third = id_of(symbols, context, Symbol::Constant(4));
+    let again = id_of(symbols, context, Symbol::Constant(9));
+    let last = id_of(symbols, context, Symbol::Constant(0));
+    [first, second, third, again, last]
 }
 
 /// They ascend where they are listed.
@@ -84,11 +71,12 @@ fn constants_ascend(rt: HostRuntime) -> Result<(), Fail> {
     let context = Context::make(rt.alloc(), 1)?;
     let mut symbols = Symbols::make(rt.alloc(), 100)?;
     let mut ascending = Ascending::make(rt.alloc(), 100)?;
-    falls(&rt, &context, &mut symbols);
+    assert_eq!(rt; falling(&context, &mut symbols), [2, 3, 4, 3, 5]);
     ascending.take_from(&context, &symbols);
     assert_eq!(rt; ascending.len(), 4);
     for (i, word) in [(0, 0), (1, 4), (2, 9), (3, 0x8000_0000)] {
-        assert_eq!(rt; constant_at(&ascending, i), word);
+        assert!(rt; i < ascending.len());
+        assert_eq!(rt; ascending.at(i).word, word);
     }
     Ok(())
 }
@@ -112,48 +100,27 @@ const DECLARED: [u32; 46] = [
     0x4_003B, 4, 5, 12, // OpVariable StorageBuffer
 ];
 
-/// The view and a constant have these ids.
-fn names_view(rt: &impl Abort, context: &Context, symbols: &mut Symbols)
-    requires stands { Stands context.now symbols.old }
-    ensures stands { Stands context.now symbols.new }
-    ensures limit { symbols.new.limit ≡ symbols.old.limit }
-    ensures words { weight context.now symbols.new.entries ≤ weight context.now symbols.old.entries + 100 }
-{
-    assert_eq!(rt; id_of(symbols, context, VIEW), 5);
-    assert_eq!(rt; id_of(symbols, context, Symbol::Constant(40)), 6);
-}
-
-/// A constant alone has this id.
-fn names_constant(rt: &impl Abort, context: &Context, symbols: &mut Symbols)
-    requires stands { Stands context.now symbols.old }
-    ensures stands { Stands context.now symbols.new }
-    ensures limit { symbols.new.limit ≡ symbols.old.limit }
-    ensures words { weight context.now symbols.new.entries ≤ weight context.now symbols.old.entries + 50 }
-{
-    assert_eq!(rt; id_of(symbols, context, Symbol::Constant(40)), 2);
-}
-
-/// The words of the view and a constant, and then those of a constant alone.
+/// Whether the view and a constant have their ids and these words, and then, in the same table, a constant alone.
 fn declares(
-    rt: &impl Abort,
     context: &Context,
     symbols: &mut Symbols,
     ascending: &mut Ascending,
     words: &mut Pool<u32>,
-)
+) -> bool
     requires small { IsSmall context.now }
     requires empty { symbols.old ≡ empty_table 100 }
     requires few { ascending.old.capacity ≡ 100 }
     requires room { words.old ≡ pooled [] 400 }
 {
-    names_view(rt, context, symbols);
+    let view = id_of(symbols, context, VIEW);
+    let constant = id_of(symbols, context, Symbol::Constant(40));
     put_front(symbols, context, ascending, words);
-    assert!(rt; are_words(words, &DECLARED));
+    let whole = (view, constant) == (5, 6) && are_words(words, &DECLARED);
     symbols.clear();
     words.clear();
-    names_constant(rt, context, symbols);
+    let alone = id_of(symbols, context, Symbol::Constant(40));
     put_front(symbols, context, ascending, words);
-    assert!(rt; are_words(words, &[0x4_0015, 1, 32, 0, 0x4_002B, 1, 2, 40]));
+    whole && alone == 2 && are_words(words, &[0x4_0015, 1, 32, 0, 0x4_002B, 1, 2, 40])
 }
 
 #[test]
@@ -169,6 +136,6 @@ fn sections_declare_symbols(rt: HostRuntime) -> Result<(), Fail> {
     let mut symbols = Symbols::make(rt.alloc(), 100)?;
     let mut ascending = Ascending::make(rt.alloc(), 100)?;
     let mut words = Pool::make(rt.alloc(), 400)?;
-    declares(&rt, &context, &mut symbols, &mut ascending, &mut words);
+    assert!(rt; declares(&context, &mut symbols, &mut ascending, &mut words));
     Ok(())
 }
