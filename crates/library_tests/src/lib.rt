@@ -10,6 +10,8 @@ macro_rules! rows {
 #[cfg(test)]
 mod arithmetic;
 #[cfg(test)]
+mod blocks;
+#[cfg(test)]
 mod checks;
 #[cfg(test)]
 mod commands;
@@ -36,4 +38,8 @@ mod signatures;
 #[cfg(test)]
 mod symbols;
 #[cfg(test)]
+mod texts;
+#[cfg(test)]
 mod tokens;
+#[cfg(test)]
+mod translation;

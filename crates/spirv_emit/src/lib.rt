@@ -22,8 +22,6 @@ mod rooms;
 mod separate;
 mod statements;
 mod syncs;
-#[cfg(test)]
-mod tests;
 mod waiting;
 mod whole;
 mod writes;

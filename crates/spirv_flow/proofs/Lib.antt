@@ -33,7 +33,6 @@ mod Emits
 mod Standing
 mod Plain
 mod Opened
-mod Example
 mod FormEach
 mod FormFits
 mod FormFront

@@ -16,8 +16,6 @@ mod heads;
 mod laws;
 mod marks;
 mod statements;
-#[cfg(test)]
-mod tests;
 
 pub use emit::emit_tree;
 pub use forms::form_laws;

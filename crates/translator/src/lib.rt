@@ -21,6 +21,3 @@ pub use preparing::{input_laws, room_for};
 pub use translation::{translate, translate_read};
 pub use view::ModuleView;
 pub use workspace::Workspace;
-
-#[cfg(test)]
-mod tests;

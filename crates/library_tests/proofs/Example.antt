@@ -1,6 +1,7 @@
 -- The tree of the test: its nodes are added one behind the other, and its root is a loop with a switch.
 use Rattle.std.proofs.Common.{◌≡◌, ℕ, zero, suc, ◌<◌, ◌≤◌, List, [], ◌∷◌, ◌++◌, length, Some, refl, sym, ap, ◌∙◌, subst, arith, append_assoc, append-nil}
-use Rattle.std.specs.Prelude.{take, get_or, IsTrue}
+use Rattle.std.specs.Prelude.{take, get_or, nat_le, IsTrue}
+use Rattle.std.proofs.lemmas.Bool.Decides.{nat_tests}
 use Rattle.shader_tree.specs.declared.node.Comparison.TheVariants.{ULess}
 use Rattle.shader_tree.specs.declared.node.Expr.TheVariants as expr
 use Rattle.shader_tree.specs.declared.node.Node.{Node}
@@ -14,7 +15,6 @@ use Rattle.shader_tree.specs.Trees.{Grown}
 use Rattle.spirv_emit.specs.declared.emitter.Emitter.{Emitter as Emission}
 use Rattle.spirv_flow.specs.Emitting.{FitsTree, root_of}
 use Rattle.spirv_emit.proofs.Lists.{and_left, and_right}
-use Rattle.spirv_flow.proofs.Marked.{at_most}
 
 -- EACH NODE of a list fits behind those in front of it.
 fit_at : (before nodes : List Node) (i : ℕ) (d : Node) → i < length nodes → IsTrue (fit_behind before nodes)
@@ -66,6 +66,9 @@ root_is = refl
 pub filled : (empty tree rooted : Grown) → tree ≡ record empty { nodes = nodes_of_test } → rooted ≡ record tree { root = Some 25 }
     → root_of rooted ≡ whole
 filled empty tree rooted e f = ap root_of f ∙ (ap (λ (t : Grown). root_of (record t { root = Some 25 })) e ∙ root_is)
+
+at_most : (a b : ℕ) → IsTrue (nat_le a b) → a ≤ b
+at_most a b h = grind (arith, nat_tests)
 
 -- What emit_tree asks of it.
 pub whole_fits : (e : Emission) → FitsTree e whole

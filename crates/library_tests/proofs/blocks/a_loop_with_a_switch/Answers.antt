@@ -3,8 +3,8 @@ use Rattle.std.specs.Prelude.{IsTrue}
 use Rattle.shader_tree.specs.Costs.{words_in, ids_in}
 use Rattle.shader_tree.specs.Placed.{is_placed}
 use Rattle.spirv_flow.specs.Emitting.{FitsTree}
-use Rattle.spirv_flow.proofs.Example.{nodes_fit, filled, whole_fits, whole_placed, whole_words, whole_ids}
-use Rattle.spirv_flow.proofs.tests.a_loop_with_a_switch.Goals as goal
+use Rattle.library_tests.proofs.Example.{nodes_fit, filled, whole_fits, whole_placed, whole_words, whole_ids}
+use Rattle.library_tests.proofs.blocks.a_loop_with_a_switch.Goals as goal
 
 pub fill-requires-clause-nodes : goal.fill-requires-clause-nodes
 fill-requires-clause-nodes g c = nodes_fit

@@ -1,12 +1,14 @@
-ghost use Rattle.std.specs.Prelude.{◌≡◌, ◌≤◌, IsTrue};
-ghost use Rattle.shader_tree.specs.Nodes.{has, a_word as the_word};
+//! The words of a module, and the blocks of a tree.
+ghost use Rattle.std.specs.Prelude.{◌≡◌, ◌≤◌, [], length, IsTrue};
+ghost use Rattle.shader_tree.specs.Nodes.{are_nodes, has, a_word as the_word};
 ghost use Rattle.shader_tree.specs.Costs.{words_in, ids_in};
 ghost use Rattle.shader_tree.specs.Terms.{term_at, Set};
 ghost use Rattle.spirv_emit.specs.Begun.{IsNew, IsUnsaid, Names};
-ghost use Rattle.spirv_emit.specs.Emission.{Emission};
+ghost use Rattle.spirv_emit.specs.declared.emitter.Emitter.{Emitter as Emission};
 
-use crate::{Emitter, Sizes};
-use shader_tree::{Expr, Tree};
+use shader_tree::{Comparison, Expr, Node, Stmt, Tree};
+use spirv_emit::{Emitter, Sizes};
+use spirv_flow::emit_tree;
 use spirv_symbols::{Ascending, Kind};
 use std::test::Fail;
 use word_base::Ternary;
@@ -81,6 +83,20 @@ const MODULE: [u32; 128] = [
     0x1_0038, // OpFunctionEnd
 ];
 
+/// Room for so many ids, words and scratch words.
+fn sizes(ids: u32, words: u32, scratch: u32) -> Sizes
+    ensures { (result.ids ≡ ids) × (result.words ≡ words) }
+{
+    Sizes {
+        ids,
+        words,
+        declared: 0,
+        buffers: 0,
+        scratch,
+        registers: 0,
+    }
+}
+
 /// New constants come as 9, 7 and 9 again: they are listed in ascending order, and those of 9 have one id. Behind
 /// another module, that of 7 alone, the words of the first come again. They come too where no scratch word has a place
 /// among those that wait: the store is then behind the value, at once.
@@ -96,30 +112,76 @@ fn constants_ascend_in_each_module(rt: HostRuntime) -> Result<(), Fail> {
         b: seven,
         c: again,
     });
-    let sizes = Sizes {
-        ids: 100,
-        words: 500,
-        declared: 0,
-        buffers: 0,
-        scratch: 1,
-        registers: 0,
-    };
-    let mut emitter = Emitter::make(rt.alloc(), sizes)?;
     let mut constants = Ascending::make(rt.alloc(), 100)?;
+    let mut emitter = Emitter::make(rt.alloc(), sizes(100, 500, 1))?;
     assert!(rt; writes(&mut emitter, &tree, whole, &mut constants, &MODULE));
     emitter.clear();
     assert!(rt; !writes(&mut emitter, &tree, seven, &mut constants, &MODULE));
     emitter.clear();
     assert!(rt; writes(&mut emitter, &tree, whole, &mut constants, &MODULE));
-    let sizes = Sizes {
-        ids: 100,
-        words: 500,
-        declared: 0,
-        buffers: 0,
-        scratch: 0,
-        registers: 0,
-    };
-    let mut emitter = Emitter::make(rt.alloc(), sizes)?;
+    let mut emitter = Emitter::make(rt.alloc(), sizes(100, 500, 0))?;
     assert!(rt; writes(&mut emitter, &tree, whole, &mut constants, &MODULE));
+    Ok(())
+}
+
+/// A loop with a switch that falls through its default, a break, a continue and a return in it, and dead code behind
+/// each.
+const LOOP: [Node; 26] = rows! {
+    Node::Expr(Expr::Word(1));
+    Node::Expr(Expr::Scratch(0));
+    Node::Expr(Expr::Compare { how: Comparison::ULess, a: 1, b: 0 });
+    Node::Stmt(Stmt::Set { scratch: 0, value: 0 });
+    Node::Stmt(Stmt::Break);
+    Node::Stmt(Stmt::Continue);
+    Node::Stmt(Stmt::Return);
+    Node::Stmt(Stmt::Nothing);
+    Node::Stmt(Stmt::Case { value: 1, next: 7 });
+    Node::Stmt(Stmt::Default { next: 7 });
+    Node::Stmt(Stmt::Case { value: 7, next: 7 });
+    // Behind the last case: under the truth a continue, and then a break.
+    Node::Stmt(Stmt::Guard { truth: 2, body: 5 });
+    Node::Stmt(Stmt::Then { first: 11, next: 4 });
+    Node::Stmt(Stmt::Then { first: 10, next: 12 });
+    Node::Stmt(Stmt::Then { first: 3, next: 13 });
+    Node::Stmt(Stmt::Then { first: 9, next: 14 });
+    // Behind the first case: a break, and what is never reached.
+    Node::Stmt(Stmt::Then { first: 3, next: 15 });
+    Node::Stmt(Stmt::Then { first: 4, next: 16 });
+    Node::Stmt(Stmt::Then { first: 3, next: 17 });
+    Node::Stmt(Stmt::Then { first: 8, next: 18 });
+    Node::Stmt(Stmt::Switch { on: 1, cases: 19 });
+    // The loop: under the truth a return; the switch; a continue, and what is never reached.
+    Node::Stmt(Stmt::Then { first: 5, next: 3 });
+    Node::Stmt(Stmt::Then { first: 20, next: 21 });
+    Node::Stmt(Stmt::Guard { truth: 2, body: 6 });
+    Node::Stmt(Stmt::Then { first: 23, next: 22 });
+    Node::Stmt(Stmt::Loop { body: 24 });
+};
+
+/// Adds the nodes of a list to a tree without nodes.
+fn fill(tree: &mut Tree, nodes: &[Node])
+    requires empty { tree.old.nodes ≡ [] }
+    requires nodes { IsTrue (are_nodes nodes.now) }
+    requires room { length nodes.now ≤ tree.old.capacity }
+    ensures { tree.new ≡ record tree.old { nodes = nodes.now } }
+{
+    for node in nodes {
+        match *node {
+            Node::Expr(e) => tree.expr(e),
+            Node::Stmt(s) => tree.stmt(s),
+        };
+    }
+}
+
+/// The words of the loop's code are those of the instructions of its nodes.
+#[test]
+fn a_loop_with_a_switch(rt: HostRuntime) -> Result<(), Fail> {
+    let mut tree = Tree::make(rt.alloc(), 26)?;
+    fill(&mut tree, &LOOP);
+    tree.set_root(25);
+    let mut emitter = Emitter::make(rt.alloc(), sizes(1000, 1000, 1))?;
+    emitter.start();
+    emit_tree(&mut emitter, &tree);
+    assert_eq!(rt; emitter.len(), 193);
     Ok(())
 }

@@ -8,8 +8,9 @@ use Rattle.spirv_symbols.specs.declared.entry.Entry.{Entry}
 use Rattle.spirv_symbols.specs.Tables.{weight}
 use Rattle.spirv_symbols.proofs.Ids.{number}
 use Rattle.spirv_emit.specs.Begun.{IsBegun}
-use Rattle.spirv_emit.specs.Emission.{Emission, words_left, words_used}
-use Rattle.spirv_emit.proofs.tests.writes.Goals as goal
+use Rattle.spirv_emit.specs.Emission.{words_left, words_used}
+use Rattle.spirv_emit.specs.declared.emitter.Emitter.{Emitter as Emission}
+use Rattle.library_tests.proofs.blocks.writes.Goals as goal
 
 -- A module lists no more variables than it has symbols.
 listed : (version : ℕ) (es : List Entry) → length (interface version es) ≤ length es

@@ -3,8 +3,8 @@ use Rattle.std.specs.Prelude.{take, IsTrue}
 use Rattle.shader_tree.specs.declared.node.Expr.TheVariants as expr
 use Rattle.shader_tree.specs.declared.node.Node.TheVariants as node
 use Rattle.shader_tree.specs.Nodes.{fits}
-use Rattle.spirv_flow.proofs.Example.{fits_next}
-use Rattle.spirv_flow.proofs.tests.fill.Goals as goal
+use Rattle.library_tests.proofs.Example.{fits_next}
+use Rattle.library_tests.proofs.blocks.fill.Goals as goal
 
 pub expr-requires-clause-fits : goal.expr-requires-clause-fits
 expr-requires-clause-fits c =
