@@ -4,5 +4,4 @@ pub mod Parts
 pub mod JobRules
 pub mod Runs
 pub mod Causes
-pub mod OneByte
 pub mod Quiet
